@@ -1,0 +1,5 @@
+pub mod Meaning
+pub mod Route
+pub mod Sound
+pub mod Guided
+pub mod Consistent
