@@ -1,0 +1,6 @@
+pub mod Records
+pub mod Lowest
+pub mod Layout
+pub mod Questions
+pub mod Verdict
+pub mod Faults
