@@ -1,6 +1,7 @@
 -- Routes over a floor.
 use Prim.Native.Nat.{ℕ, _+_, _<_}
 use mathlib.Core.List.{List, [], _∷_}
+use mathlib.Core.Bool.{true}
 use mathlib.Core.Path.{_≡_}
 use Rattle.std.specs.declared.option.Option.the-variants.{Some}
 use Rattle.floors.specs.declared.leg.Leg.{Leg}
@@ -16,3 +17,9 @@ pub data Route (m : Meaning) : ℕ → List ℕ → ℕ → Type 0 where
 abbrev pub last : ℕ → List ℕ → ℕ
 last p [] = p
 last p (q ∷ qs) = last q qs
+
+-- A route from place p to a goal at cost c.
+pub record ToGoal (m : Meaning) (p c : ℕ) : Type 0 where
+  pub places : List ℕ
+  pub route : Route m p places c
+  pub ends : m .goal (last p places) ≡ true

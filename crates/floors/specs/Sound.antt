@@ -1,12 +1,11 @@
 -- What every floor owes.
 use Prim.Native.Nat.{ℕ, _<_, _≤_}
-use mathlib.Core.Bool.{true, false}
-use mathlib.Core.List.{List}
+use mathlib.Core.Bool.{false}
 use mathlib.Core.Path.{_≡_}
 use Rattle.std.specs.declared.option.Option.the-variants.{Some, None}
 use Rattle.floors.specs.declared.leg.Leg.{Leg}
 use Rattle.floors.specs.Meaning.{Meaning}
-use Rattle.floors.specs.Route.{Route, last}
+use Rattle.floors.specs.Route.{ToGoal}
 
 -- The greatest estimate: 4,095 legs of cost 65,535.
 abbrev pub limit : ℕ
@@ -30,7 +29,7 @@ pub record Outside (m : Meaning) : Type 0 where
 
 -- The law: the low estimate of a place is at most the cost of every route from it to a goal.
 abbrev pub Admissible : Meaning → Type 0
-Admissible m = (p : ℕ) (qs : List ℕ) (c : ℕ) → Route m p qs c → m .goal (last p qs) ≡ true → m .low p ≤ c
+Admissible m = (p c : ℕ) → ToGoal m p c → m .low p ≤ c
 
 -- What an implementation shows of its meaning: the limits, the answers off the floor, and the law.
 pub record Sound (m : Meaning) : Type 0 where

@@ -4,7 +4,9 @@ use mathlib.Core.Bool.{Bool, false, cond, not}
 use mathlib.Core.List.{List}
 use lib.Dec.{eqb, ltb}
 use Rattle.std.specs.Options.{valueOr}
+use Rattle.std.specs.declared.option.Option.{Option}
 use Rattle.std.specs.declared.option.Option.the-variants.{Some, None}
+use Rattle.floors.specs.declared.leg.Leg.{Leg}
 use Rattle.floors.specs.Guided.{Guesses}
 use Rattle.floors.specs.Meaning.{Meaning}
 use Rattle.layout.specs.declared.counts.Counts.{Counts}
@@ -45,28 +47,32 @@ leg-count bs n p = cond (ltb p (n .size)) (first-leg bs n (p + 1) - first-leg bs
 abbrev pub leg-record : List ℕ → Counts → ℕ → ℕ → ℕ
 leg-record bs n p k = n .places + (first-leg bs n p + k)
 
--- The places, legs and goals, under any low estimates.
-abbrev pub floor-under : (ℕ → ℕ) → List ℕ → Counts → Meaning
-floor-under low bs n = record
-  { size = n .size
-  ; count = leg-count bs n
-  ; leg = λ p k. cond (ltb k (leg-count bs n p))
-      (Some (record { target = record-at bs (leg-record bs n p k) .word1; cost = record-at bs (leg-record bs n p k) .half })) None
-  ; goal = λ p. cond (ltb p (n .size)) (eqb (record-at bs p .flag) 1) false
-  ; low = low
-  }
+-- Leg k of place p; past the list it is barred.
+abbrev pub leg-of : List ℕ → Counts → ℕ → ℕ → Option Leg
+leg-of bs n p k = cond (ltb k (leg-count bs n p))
+    (Some (record { target = record-at bs (leg-record bs n p k) .word1; cost = record-at bs (leg-record bs n p k) .half })) None
 
--- The low estimates as the place records have them.
+-- Byte 1 of a place record is 1 for a goal.
+abbrev pub goal-of : List ℕ → Counts → ℕ → Bool
+goal-of bs n p = cond (ltb p (n .size)) (eqb (record-at bs p .flag) 1) false
+
+-- The low, hope and step estimates in the place records.
 abbrev pub low-of : List ℕ → Counts → ℕ → ℕ
 low-of bs n p = cond (ltb p (n .size)) (record-at bs p .word1) 0
 
--- The floor that bytes so divided describe.
+abbrev pub hope-of : List ℕ → Counts → ℕ → ℕ
+hope-of bs n p = cond (ltb p (n .size)) (record-at bs p .word2) 0
+
+abbrev pub steps-of : List ℕ → Counts → ℕ → ℕ
+steps-of bs n p = cond (ltb p (n .size)) (record-at bs p .word3) 0
+
+-- The places, legs and goals that bytes so divided describe, under any low estimates.
+abbrev pub floor-under : (ℕ → ℕ) → List ℕ → Counts → Meaning
+floor-under low bs n = record { size = n .size; count = leg-count bs n; leg = leg-of bs n; goal = goal-of bs n; low = low }
+
+-- The floor that they describe, and its guesses.
 abbrev pub floor-of : List ℕ → Counts → Meaning
 floor-of bs n = floor-under (low-of bs n) bs n
 
--- The guesses in the place records.
 abbrev pub guesses-of : List ℕ → Counts → Guesses
-guesses-of bs n = record
-  { hope = λ p. cond (ltb p (n .size)) (record-at bs p .word2) 0
-  ; steps = λ p. cond (ltb p (n .size)) (record-at bs p .word3) 0
-  }
+guesses-of bs n = record { hope = hope-of bs n; steps = steps-of bs n }

@@ -33,5 +33,5 @@ abbrev pub zeros : RawRecord
 zeros = record { tag = 0; flag = 0; half = 0; word1 = 0; word2 = 0; word3 = 0 }
 
 -- The record of number r; past the last whole record, zeros.
-abbrev pub record-at : List ℕ → ℕ → RawRecord
+unfoldable pub record-at : List ℕ → ℕ → RawRecord
 record-at bs r = cond (ltb r (whole bs)) (part-at bs (16 * r)) zeros

@@ -6,3 +6,6 @@ pub mod record;
 pub mod question;
 pub mod records;
 pub mod shape;
+pub mod reading;
+pub mod draft;
+pub mod layout_floor;
