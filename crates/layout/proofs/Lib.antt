@@ -1,3 +1,5 @@
 pub mod Lowests
 pub mod Verdicts
 pub mod Tags
+pub mod Owners
+pub mod Accepted

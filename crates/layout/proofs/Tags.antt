@@ -4,16 +4,17 @@ use mathlib.Core.Bool.{Bool, true, false, not, _&&_, _||_}
 use mathlib.Core.List.{List}
 use mathlib.Core.Logic.{_⊎_, inl, inr, ⊎-elim}
 use mathlib.Core.Path.{_≡_, refl, sym, ap, subst, _∙_}
-use lib.Dec.{eqb, leb}
+use lib.Dec.{eqb, leb, ltb}
 use native.Mathlib.Omega.{arith}
-use Rattle.std.proofs.shelf.Tests.{cases-eq, cases-lt, le-leb, lt-leb, eqb-true, ne-eqb, not-true, not-false, or-left, or-right, or-from, false≢true}
+use Rattle.std.proofs.shelf.Tests.{cases-eq, cases-lt, le-leb, lt-leb, eqb-true, ne-eqb, not-true, not-false, or-left, or-right, or-from, false≢true, both-ways, cond-false, le-ltb}
 use Rattle.std.specs.declared.option.Option.{Option}
 use Rattle.std.specs.declared.option.Option.the-variants.{Some, None}
 use Rattle.std.specs.Options.{valueOr}
 use Rattle.layout.specs.Layout.{no-place, places, place-tag, leg-tag}
 use Rattle.layout.specs.Lowest.{lowest}
 use Rattle.layout.specs.Questions.{wrong-tag, leg-before}
-use Rattle.layout.specs.Records.{whole, record-at}
+use Rattle.layout.specs.declared.record.RawRecord.{RawRecord}
+use Rattle.layout.specs.Records.{whole, part-at, zeros, record-at}
 use Rattle.layout.proofs.Lowests.{lowest-none, lowest-some, lowest-same}
 
 -- the lowest failing number, or the end, divides what passes from the first that fails
@@ -53,6 +54,19 @@ module _ (bs : List ℕ) where
 
   is-no-place : places bs < whole bs → eqb (record-at bs (places bs) .tag) place-tag ≡ false
   is-no-place h = not-true _ (first-failing (no-place bs) (whole bs) (lowest (no-place bs) (whole bs)) refl .2 h)
+
+  -- a layout whose record 0 is a place record has places
+  pub first-place : eqb (record-at bs 0 .tag) place-tag ≡ true → 1 ≤ places bs
+  unfolding record-at
+  first-place e = ⊎-elim
+    (λ (none : places bs < 1).
+      let empty : places bs ≡ 0 = omega arith in
+      ⊎-elim
+        (λ (some : places bs < whole bs). absurd (both-ways _ (subst (λ i. eqb (record-at bs i .tag) place-tag ≡ false) empty (is-no-place some)) e))
+        (λ (all : whole bs ≤ places bs). absurd (false≢true (sym (ap (λ (x : RawRecord). eqb (x .tag) place-tag) (cond-false (ltb 0 (whole bs)) (part-at bs 0) zeros (le-ltb 0 (whole bs) (omega arith)))) ∙ e)))
+        (cases-lt (places bs) (whole bs)))
+    (λ some. some)
+    (cases-lt (places bs) 1)
 
   place-no-leg : (i : ℕ) → eqb (record-at bs i .tag) place-tag ≡ true → eqb (record-at bs i .tag) leg-tag ≡ false
   place-no-leg i e = ne-eqb _ _ (λ same. let at : record-at bs i .tag ≡ place-tag = eqb-true _ _ e in omega arith)

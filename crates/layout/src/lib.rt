@@ -9,3 +9,4 @@ pub mod shape;
 pub mod reading;
 pub mod draft;
 pub mod layout_floor;
+pub mod law;
