@@ -16,7 +16,7 @@ use Rattle.floors.specs.declared.leg.Leg.{Leg}
 use Rattle.floors.specs.Consistent.{consistent-admissible}
 use Rattle.floors.specs.Sound.{limit}
 use Rattle.layout.specs.declared.counts.Counts.{Counts}
-use Rattle.layout.specs.Formed.{Formed, Lawful, usable}
+use Rattle.layout.specs.Formed.{Formed, Lawful, Ordered, usable}
 use Rattle.layout.specs.Layout.{places, counts, first-leg, leg-count, leg-record, leg-of, goal-of, low-of, floor-of, place-tag}
 use Rattle.layout.specs.Lowest.{lowest}
 use Rattle.layout.specs.Questions.{broken-length, no-first-place, wrong-tag, too-many, wrong-fixed, wrong-first, wrong-target, wrong-estimate, high-goal, steep}
@@ -24,7 +24,7 @@ use Rattle.layout.specs.Records.{whole, part-at, zeros, record-at}
 use Rattle.layout.specs.Steep.{falls-short}
 use Rattle.layout.specs.Verdict.{Verdict, accepted, refused, asked, then, shape, each-record, low-law}
 use Rattle.layout.proofs.Lowests.{lowest-none}
-use Rattle.layout.proofs.Owners.{Ordered, count-is, steep-is}
+use Rattle.layout.proofs.Owners.{count-is, steep-is}
 use Rattle.layout.proofs.Tags.{places-within, first-place}
 
 then-both : (v w : Verdict) → then v w ≡ accepted → (v ≡ accepted) × (w ≡ accepted)
@@ -118,7 +118,7 @@ module _ (bs : List ℕ) (shaped : shape bs ≡ accepted) (read : each-record bs
       rw (cond-false (ltb (p + 1) (places bs)) (record-at bs (p + 1) .half) (whole bs - places bs) (le-ltb (p + 1) (places bs) last)) (first-within p))
     (cases-lt (p + 1) (places bs))
 
-  pub ordered : Ordered bs (counts bs)
+  ordered : Ordered bs (counts bs)
   ordered = record
     { each = refl
     ; some = some-place bs shaped
@@ -132,7 +132,7 @@ module _ (bs : List ℕ) (shaped : shape bs ≡ accepted) (read : each-record bs
     (lowest-none (wrong-target bs (counts bs)) (whole bs) (read-none .2) (places bs + j) (omega (arith, places-within bs)))
     (le-leb (places bs) (places bs + j) (omega arith)))
 
-  pub formed : ((i : ℕ) → getD bs i 0 < 256) → Formed bs (counts bs)
+  formed : ((i : ℕ) → getD bs i 0 < 256) → Formed bs (counts bs)
   formed bytes = ((some-place bs shaped, few-counts bs shaped .0, few-counts bs shaped .1), (first-within, target-within, half-small bs bytes))
 
   -- the estimates of a place are within the limit
@@ -169,10 +169,24 @@ module _ (bs : List ℕ) (shaped : shape bs ≡ accepted) (read : each-record bs
         ∙ lowest-none (steep bs (counts bs)) (whole bs) (low-none .1) (leg-record bs (counts bs) p k) within in
       rw (low-is p place, low-is (l .target) leads) (ltb-false _ _ flat)
 
-    pub lawful : Lawful bs (counts bs)
+    lawful : Lawful bs (counts bs)
     lawful =
       ( (λ p. cond-both (ltb p (places bs)) _ _ (λ x. x ≤ limit) (λ e. estimates p (ltb-true _ _ e) .0) (λ e. omega arith))
       , (λ p. cond-both (ltb p (places bs)) _ _ (λ x. x ≤ limit) (λ e. estimates p (ltb-true _ _ e) .1) (λ e. omega arith))
       , (λ p. cond-both (ltb p (places bs)) _ _ (λ x. x ≤ limit) (λ e. estimates p (ltb-true _ _ e) .2) (λ e. omega arith))
       , consistent-admissible (floor-of bs (counts bs)) (record { goals = goal-zero; legs = leg-gentle })
       )
+
+-- The same of counts that were found, as the intake meets them.
+pub read-fine : (bs : List ℕ) (n : Counts) → ((i : ℕ) → getD bs i 0 < 256) → n ≡ counts bs
+    → accepted ≡ shape bs → accepted ≡ each-record bs n → Formed bs n × Ordered bs n
+read-fine bs n bytes counted shaped read =
+    let here : each-record bs (counts bs) ≡ accepted = sym (read ∙ ap (each-record bs) counted) in
+    subst (λ x. Formed bs x × Ordered bs x) (sym counted) (formed bs (sym shaped) here bytes, ordered bs (sym shaped) here)
+
+pub all-fine : (bs : List ℕ) (n : Counts) → ((i : ℕ) → getD bs i 0 < 256) → n ≡ counts bs
+    → accepted ≡ shape bs → accepted ≡ each-record bs n → accepted ≡ low-law bs n → Formed bs n × Lawful bs n
+all-fine bs n bytes counted shaped read lows =
+    let here : each-record bs (counts bs) ≡ accepted = sym (read ∙ ap (each-record bs) counted) in
+    let low : low-law bs (counts bs) ≡ accepted = sym (lows ∙ ap (low-law bs) counted) in
+    (read-fine bs n bytes counted shaped read .0, subst (Lawful bs) (sym counted) (lawful bs (sym shaped) here low))

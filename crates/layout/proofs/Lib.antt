@@ -3,3 +3,4 @@ pub mod Verdicts
 pub mod Tags
 pub mod Owners
 pub mod Accepted
+pub mod Checks

@@ -12,20 +12,13 @@ use Rattle.std.specs.Options.{mapped}
 use Rattle.std.specs.declared.option.Option.{Option}
 use Rattle.std.specs.declared.option.Option.the-variants.{Some, None}
 use Rattle.layout.specs.declared.counts.Counts.{Counts}
+use Rattle.layout.specs.Formed.{Ordered}
 use Rattle.layout.specs.Layout.{first-leg, leg-count, leg-record, leg-of, floor-under}
 use Rattle.layout.specs.Lowest.{lowest}
 use Rattle.layout.specs.Questions.{owner, steep}
 use Rattle.layout.specs.Records.{whole, record-at}
 use Rattle.layout.specs.Steep.{falls-short, Gentle, GentleAt, FirstSteep}
 use Rattle.layout.proofs.Lowests.{lowest-all, lowest-found}
-
--- Each place record is a place, the legs fill the rest, and first legs begin at 0 and never fall.
-pub record Ordered (bs : List ℕ) (n : Counts) : Type 0 where
-  pub each : n .size ≡ n .places
-  pub some : 1 ≤ n .places
-  pub all : n .places + n .legs ≡ whole bs
-  pub begins : first-leg bs n 0 ≡ 0
-  pub rises : (p : ℕ) → first-leg bs n p ≤ first-leg bs n (p + 1)
 
 -- Of the first u places, o is the last whose list does not begin behind leg j.
 abbrev Owned : List ℕ → Counts → ℕ → ℕ → ℕ → Type 0
@@ -130,7 +123,7 @@ module _ (bs : List ℕ) (n : Counts) (ordered : Ordered bs n) where
     (cases-lt r (n .places))
 
   -- the lowest steep record is that of the first steep leg, by place and then by number
-  pub lowest-steep : (at : Option (ℕ × ℕ)) → FirstSteep (floor-under (λ _. 0) bs n) (λ q. record-at bs q .word1) at
+  lowest-steep : (at : Option (ℕ × ℕ)) → FirstSteep (floor-under (λ _. 0) bs n) (λ q. record-at bs q .word1) at
       → lowest (steep bs n) (whole bs) ≡ mapped (λ (x : ℕ × ℕ). leg-record bs n (x .0) (x .1)) at
   lowest-steep None gentle = lowest-all (steep bs n) (whole bs) (λ r within.
     gentle-before (n .places) 0 (omega (arith, ordered .rises (n .places)))
@@ -143,3 +136,13 @@ module _ (bs : List ℕ) (n : Counts) (ordered : Ordered bs n) where
     lowest-found (steep bs n) (leg-record bs n p k) (whole bs)
       (lowest-all (steep bs n) (leg-record bs n p k) (λ r below. gentle-before p k (omega arith) (first .3) (first .4) r below (omega arith)))
       (steep-is p k place (first .1) ∙ first .2) within
+
+-- The same, asked of a draft of the layout.
+pub lowest-drafted : (bs bs′ : List ℕ) (n n′ : Counts) → Ordered bs n → bs′ ≡ bs → n′ ≡ n → (at answer : Option (ℕ × ℕ)) → answer ≡ at
+    → FirstSteep (floor-under (λ _. 0) bs′ n′) (λ q. record-at bs q .word1) answer
+    → mapped (λ (x : ℕ × ℕ). leg-record bs n (x .0) (x .1)) at ≡ lowest (steep bs n) (whole bs)
+lowest-drafted bs bs′ n n′ ordered same counted at answer is first =
+    sym (lowest-steep bs n ordered at
+      (subst (λ x. FirstSteep (floor-under (λ _. 0) bs n) (λ q. record-at bs q .word1) x) is
+      (subst (λ x. FirstSteep (floor-under (λ _. 0) bs x) (λ q. record-at bs q .word1) answer) counted
+      (subst (λ x. FirstSteep (floor-under (λ _. 0) x n′) (λ q. record-at bs q .word1) answer) same first))))

@@ -2,9 +2,7 @@
 use mathlib.Core.Path.{_≡_, refl, sym, ap, _∙_}
 use Rattle.layout.specs.declared.fault.RecordFault.{RecordFault}
 use Rattle.layout.specs.declared.fault.RecordFault.the-variants.{Tag, FixedBytes, FirstLeg, Target, Estimate}
-use Rattle.layout.specs.declared.fault.LayoutFault.{LayoutFault}
-use Rattle.layout.specs.declared.fault.LayoutFault.the-variants.{Length, FirstRecord, TooMany, Record, HighGoal, SteepLeg}
-use Rattle.layout.specs.Faults.{record-verdict, layout-verdict}
+use Rattle.layout.specs.Faults.{record-verdict}
 use Rattle.layout.specs.Verdict.{Verdict, accepted, refused, then}
 
 -- a verdict that accepts leaves the word to the next
@@ -27,16 +25,5 @@ record-refuses (FirstLeg r) = tt
 record-refuses (Target r) = tt
 record-refuses (Estimate r) = tt
 
-layout-refuses : (fault : LayoutFault) → Refuses (layout-verdict fault)
-layout-refuses (Length r) = tt
-layout-refuses FirstRecord = tt
-layout-refuses (TooMany r) = tt
-layout-refuses (Record fault) = record-refuses fault
-layout-refuses (HighGoal r) = tt
-layout-refuses (SteepLeg r) = tt
-
 pub then-record : (fault : RecordFault) (v w : Verdict) → record-verdict fault ≡ v → record-verdict fault ≡ then v w
 then-record fault v w e = sym (then-refuses _ w (record-refuses fault)) ∙ ap (λ y. then y w) e
-
-pub then-layout : (fault : LayoutFault) (v w : Verdict) → layout-verdict fault ≡ v → layout-verdict fault ≡ then v w
-then-layout fault v w e = sym (then-refuses _ w (layout-refuses fault)) ∙ ap (λ y. then y w) e

@@ -12,7 +12,7 @@ use Rattle.floors.specs.Guided.{Limited}
 use Rattle.floors.specs.Sound.{Limits, Outside, Sound, Admissible, limit}
 use Rattle.layout.specs.declared.counts.Counts.{Counts}
 use Rattle.layout.specs.Layout.{first-leg, leg-count, leg-record, leg-of, goal-of, low-of, hope-of, steps-of, floor-under, floor-of, guesses-of}
-use Rattle.layout.specs.Records.{record-at}
+use Rattle.layout.specs.Records.{whole, record-at}
 
 -- The counts are within the limits.
 abbrev pub Few : Counts → Type 0
@@ -27,6 +27,14 @@ Linked bs n =
 
 abbrev pub Formed : List ℕ → Counts → Type 0
 Formed bs n = Few n × Linked bs n
+
+-- Each place record is a place, the legs fill the rest, and first legs begin at 0 and never fall.
+pub record Ordered (bs : List ℕ) (n : Counts) : Type 0 where
+  pub each : n .size ≡ n .places
+  pub some : 1 ≤ n .places
+  pub all : n .places + n .legs ≡ whole bs
+  pub begins : first-leg bs n 0 ≡ 0
+  pub rises : (p : ℕ) → first-leg bs n p ≤ first-leg bs n (p + 1)
 
 -- The estimates are within the limit, and the low ones keep the law.
 abbrev pub Lawful : List ℕ → Counts → Type 0

@@ -6,3 +6,5 @@ pub mod Questions
 pub mod Steep
 pub mod Verdict
 pub mod Faults
+pub mod Checked
+pub mod Intake

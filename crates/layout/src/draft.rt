@@ -1,4 +1,5 @@
 // A layout that has passed questions 1 to 8, before its low estimates are looked at.
+ghost use mathlib.Core.Path.{_≡_};
 ghost use denote.Ref.{now};
 ghost use Rattle.layout.specs.Formed.{Formed, draft-sound};
 ghost use Rattle.layout.specs.Layout.{floor-under};
@@ -20,6 +21,7 @@ pub struct Draft<'a> {
 impl Draft<'_> {
     pub fn new(layout: &[u8], counts: Counts) -> Draft<'_>
         requires { ⌜ Formed (now layout) counts ⌝ }
+        ensures { λ r. ⌜ now (r .layout) ≡ now (layout .entry) ⌝ ∗ ⌜ r .counts ≡ counts ⌝ }
     {
         Draft { layout, counts }
     }

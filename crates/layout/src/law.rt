@@ -1,8 +1,21 @@
 // Question 9: the low estimates.
 ghost use mathlib.Core.Path.{_≡_};
-ghost use Rattle.layout.specs.Records.{record-at};
+ghost use Rattle.layout.specs.Faults.{layout-verdict, says};
+ghost use Rattle.layout.specs.Formed.{Formed, Ordered};
+ghost use Rattle.layout.specs.Lowest.{lowest};
+ghost use Rattle.layout.specs.Questions.{steep};
+ghost use Rattle.layout.specs.Records.{whole, record-at};
 ghost use Rattle.layout.specs.Steep.{falls-short, FirstSteep};
+ghost use Rattle.layout.specs.Verdict.{low-law};
+use crate::counts::Counts;
+use crate::draft::Draft;
+use crate::draft::DraftFloor;
+use crate::fault::LayoutFault;
+use crate::question::lowest_failing;
 use crate::raw::raw_record;
+use crate::reading::leg_record;
+use crate::records::HighGoal;
+use crate::records::HighGoalTest;
 use floors::floor::Floor;
 use floors::leg::Leg;
 
@@ -34,4 +47,29 @@ fn first_steep_leg<F: Floor>(floor: &F, layout: &[u8]) -> Option<(u32, u32)>
         }
     }
     found
+}
+
+// The record of the first such leg: the lowest that fails.
+fn steep_record(layout: &[u8], counts: Counts) -> Option<usize>
+    requires { ⌜ Formed (now layout) counts ⌝ ∗ ⌜ Ordered (now layout) counts ⌝ }
+    ensures { λ r. ⌜ r ≡ lowest (steep (now (layout .entry)) counts) (whole (now (layout .entry))) ⌝ }
+{
+    match first_steep_leg(&Draft::new(layout, counts), layout) {
+        Some((place, number)) => Some(leg_record(layout, counts, place, number)),
+        None => None,
+    }
+}
+
+// Question 9, of a layout that has passed the questions before it.
+pub fn check_low(layout: &[u8], counts: Counts) -> Result<(), LayoutFault>
+    requires { ⌜ Formed (now layout) counts ⌝ ∗ ⌜ Ordered (now layout) counts ⌝ }
+    ensures { λ r. ⌜ says layout-verdict r ≡ low-law (now (layout .entry)) counts ⌝ }
+{
+    if let Some(index) = lowest_failing(&HighGoal, layout, counts.places as usize) {
+        return Err(LayoutFault::HighGoal(index));
+    }
+    match steep_record(layout, counts) {
+        Some(index) => Err(LayoutFault::SteepLeg(index)),
+        None => Ok(()),
+    }
 }

@@ -1,4 +1,5 @@
 // The floor of an accepted layout, which keeps the layout's bytes.
+ghost use mathlib.Core.Path.{_≡_};
 ghost use Rattle.std.specs.Of.Vec.{vec-items};
 ghost use Rattle.layout.specs.Formed.{Formed, Lawful, layout-sound, layout-limited};
 ghost use Rattle.layout.specs.Layout.{floor-of, guesses-of};
@@ -19,6 +20,24 @@ pub struct LayoutFloor {
     counts: Counts,
     ghost formed: { Formed (vec-items layout) counts },
     ghost lawful: { Lawful (vec-items layout) counts },
+}
+
+impl LayoutFloor {
+    // The floor of bytes that divide so, where they are well formed and lawful.
+    pub(crate) fn new(layout: Vec<u8>, counts: Counts) -> LayoutFloor
+        requires { ⌜ Formed (vec-items layout) counts ⌝ ∗ ⌜ Lawful (vec-items layout) counts ⌝ }
+        ensures { λ r. ⌜ r .layout ≡ layout ⌝ ∗ ⌜ r .counts ≡ counts ⌝ }
+    {
+        LayoutFloor { layout, counts }
+    }
+
+    // The bytes again.
+    pub fn into_bytes(self) -> Vec<u8>
+        ensures { λ r. ⌜ r ≡ self .layout ⌝ }
+    {
+        let LayoutFloor { layout, counts: _ } = self;
+        layout
+    }
 }
 
 pub impl Floor for LayoutFloor as LayoutIsFloor {

@@ -10,3 +10,5 @@ pub mod reading;
 pub mod draft;
 pub mod layout_floor;
 pub mod law;
+pub mod refused;
+pub mod intake;
