@@ -3,3 +3,4 @@ pub mod Route
 pub mod Sound
 pub mod Guided
 pub mod Consistent
+pub mod Listing

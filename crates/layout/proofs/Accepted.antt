@@ -72,9 +72,9 @@ module _ (bs : List ℕ) (shaped : shape bs ≡ accepted) where
 
   few-counts : (places bs ≤ 4096) × (whole bs - places bs ≤ 65535)
   few-counts =
-    let first = unnamed (ltb 4096 (places bs)) 4096 (cond (ltb 65535 (whole bs - places bs)) (Some (places bs + 65535)) None) (shape-none .3) in
-    let second = unnamed (ltb 65535 (whole bs - places bs)) (places bs + 65535) None (first .1) in
-    (ltb-false _ _ (first .0), ltb-false _ _ (second .0))
+      let first = unnamed (ltb 4096 (places bs)) 4096 (cond (ltb 65535 (whole bs - places bs)) (Some (places bs + 65535)) None) (shape-none .3) in
+      let second = unnamed (ltb 65535 (whole bs - places bs)) (places bs + 65535) None (first .1) in
+      (ltb-false _ _ (first .0), ltb-false _ _ (second .0))
 
   -- the first record is there, and is a place record
   some-place : 1 ≤ places bs
@@ -97,9 +97,9 @@ module _ (bs : List ℕ) (shaped : shape bs ≡ accepted) (read : each-record bs
   -- the first leg of a later place is neither before its forerunner's nor past the legs
   first-next : (p : ℕ) → suc p < places bs → (record-at bs p .half ≤ record-at bs (suc p) .half) × (record-at bs (suc p) .half ≤ whole bs - places bs)
   first-next p h =
-    let parts = or-parts (ltb (record-at bs (suc p) .half) (record-at bs p .half)) (ltb (whole bs - places bs) (record-at bs (suc p) .half))
+      let parts = or-parts (ltb (record-at bs (suc p) .half) (record-at bs p .half)) (ltb (whole bs - places bs) (record-at bs (suc p) .half))
       (lowest-none (wrong-first bs (counts bs)) (places bs) (read-none .1) (suc p) h) in
-    (ltb-false _ _ (parts .0), ltb-false _ _ (parts .1))
+      (ltb-false _ _ (parts .0), ltb-false _ _ (parts .1))
 
   first-at : (p : ℕ) → p < places bs → record-at bs p .half ≤ whole bs - places bs
   first-at zero h = omega (arith, first-zero)
@@ -110,27 +110,29 @@ module _ (bs : List ℕ) (shaped : shape bs ≡ accepted) (read : each-record bs
 
   first-rises : (p : ℕ) → first-leg bs (counts bs) p ≤ first-leg bs (counts bs) (p + 1)
   first-rises p = ⊎-elim
-    (λ (more : p + 1 < places bs).
-      rw (cond-true (ltb p (places bs)) (record-at bs p .half) (whole bs - places bs) (lt-ltb p (places bs) (omega arith)),
-        cond-true (ltb (p + 1) (places bs)) (record-at bs (p + 1) .half) (whole bs - places bs) (lt-ltb (p + 1) (places bs) more))
+      (λ (more : p + 1 < places bs).
+      rw (
+        cond-true (ltb p (places bs)) (record-at bs p .half) (whole bs - places bs) (lt-ltb p (places bs) (omega arith)),
+        cond-true (ltb (p + 1) (places bs)) (record-at bs (p + 1) .half) (whole bs - places bs) (lt-ltb (p + 1) (places bs) more),
+      )
       (subst (λ q. record-at bs p .half ≤ record-at bs q .half) (sym (add-one p)) (first-next p (omega arith) .0)))
-    (λ (last : places bs ≤ p + 1).
+      (λ (last : places bs ≤ p + 1).
       rw (cond-false (ltb (p + 1) (places bs)) (record-at bs (p + 1) .half) (whole bs - places bs) (le-ltb (p + 1) (places bs) last)) (first-within p))
-    (cases-lt (p + 1) (places bs))
+      (cases-lt (p + 1) (places bs))
 
   ordered : Ordered bs (counts bs)
-  ordered = record
-    { each = refl
-    ; some = some-place bs shaped
-    ; all = omega (arith, places-within bs)
-    ; begins = cond-true (ltb 0 (places bs)) _ _ (lt-ltb 0 (places bs) (omega (arith, some-place bs shaped))) ∙ first-zero
-    ; rises = first-rises
-    }
+  ordered = record {
+    each = refl;
+    some = some-place bs shaped;
+    all = omega (arith, places-within bs);
+    begins = cond-true (ltb 0 (places bs)) _ _ (lt-ltb 0 (places bs) (omega (arith, some-place bs shaped))) ∙ first-zero;
+    rises = first-rises;
+  }
 
   target-within : (j : ℕ) → j < whole bs - places bs → record-at bs (places bs + j) .word1 < places bs
   target-within j h = leb-false _ _ (second-false (leb (places bs) (places bs + j)) (leb (places bs) (record-at bs (places bs + j) .word1))
-    (lowest-none (wrong-target bs (counts bs)) (whole bs) (read-none .2) (places bs + j) (omega (arith, places-within bs)))
-    (le-leb (places bs) (places bs + j) (omega arith)))
+      (lowest-none (wrong-target bs (counts bs)) (whole bs) (read-none .2) (places bs + j) (omega (arith, places-within bs)))
+      (le-leb (places bs) (places bs + j) (omega arith)))
 
   formed : ((i : ℕ) → getD bs i 0 < 256) → Formed bs (counts bs)
   formed bytes = ((some-place bs shaped, few-counts bs shaped .0, few-counts bs shaped .1), (first-within, target-within, half-small bs bytes))
@@ -139,10 +141,10 @@ module _ (bs : List ℕ) (shaped : shape bs ≡ accepted) (read : each-record bs
   estimates : (p : ℕ) → p < places bs
       → (record-at bs p .word1 ≤ limit) × (record-at bs p .word2 ≤ limit) × (record-at bs p .word3 ≤ limit)
   estimates p h =
-    let first = or-parts (ltb limit (record-at bs p .word1)) (ltb limit (record-at bs p .word2) || ltb limit (record-at bs p .word3))
+      let first = or-parts (ltb limit (record-at bs p .word1)) (ltb limit (record-at bs p .word2) || ltb limit (record-at bs p .word3))
       (lowest-none (wrong-estimate bs) (places bs) (read-none .3) p h) in
-    let rest = or-parts (ltb limit (record-at bs p .word2)) (ltb limit (record-at bs p .word3)) (first .1) in
-    (ltb-false _ _ (first .0), ltb-false _ _ (rest .0), ltb-false _ _ (rest .1))
+      let rest = or-parts (ltb limit (record-at bs p .word2)) (ltb limit (record-at bs p .word3)) (first .1) in
+      (ltb-false _ _ (first .0), ltb-false _ _ (rest .0), ltb-false _ _ (rest .1))
 
   module _ (lows : low-law bs (counts bs) ≡ accepted) where
     low-none : (lowest (high-goal bs) (places bs) ≡ None) × (lowest (steep bs (counts bs)) (whole bs) ≡ None)
@@ -153,29 +155,29 @@ module _ (bs : List ℕ) (shaped : shape bs ≡ accepted) (read : each-record bs
 
     goal-zero : (p : ℕ) → goal-of bs (counts bs) p ≡ true → low-of bs (counts bs) p ≡ 0
     goal-zero p e =
-      let g = both-true (ltb p (places bs)) (eqb (record-at bs p .flag) 1) e in
-      let place : p < places bs = ltb-true _ _ (g .0) in
-      low-is p place ∙ eqb-true _ _ (not-false _ (second-false (eqb (record-at bs p .flag) 1) (not (eqb (record-at bs p .word1) 0))
+        let g = both-true (ltb p (places bs)) (eqb (record-at bs p .flag) 1) e in
+        let place : p < places bs = ltb-true _ _ (g .0) in
+        low-is p place ∙ eqb-true _ _ (not-false _ (second-false (eqb (record-at bs p .flag) 1) (not (eqb (record-at bs p .word1) 0))
         (lowest-none (high-goal bs) (places bs) (low-none .0) p place) (g .1)))
 
     leg-gentle : (p k : ℕ) (l : Leg) → leg-of bs (counts bs) p k ≡ Some l → low-of bs (counts bs) p ≤ l .cost + low-of bs (counts bs) (l .target)
     leg-gentle p k l e =
-      let (place, inside, target, cost) = usable bs (counts bs) p k l e in
-      let listed : k < leg-count bs (counts bs) p = omega (arith, inside, count-is bs (counts bs) ordered p place) in
-      let within : leg-record bs (counts bs) p k < whole bs = omega (arith, inside, first-within (p + 1), places-within bs) in
-      let leads : l .target < places bs = subst (λ t. t < places bs) target (target-within (first-leg bs (counts bs) p + k) (omega (arith, inside, first-within (p + 1)))) in
-      let flat : ltb (l .cost + record-at bs (l .target) .word1) (record-at bs p .word1) ≡ false =
+        let (place, inside, target, cost) = usable bs (counts bs) p k l e in
+        let listed : k < leg-count bs (counts bs) p = omega (arith, inside, count-is bs (counts bs) ordered p place) in
+        let within : leg-record bs (counts bs) p k < whole bs = omega (arith, inside, first-within (p + 1), places-within bs) in
+        let leads : l .target < places bs = subst (λ t. t < places bs) target (target-within (first-leg bs (counts bs) p + k) (omega (arith, inside, first-within (p + 1)))) in
+        let flat : ltb (l .cost + record-at bs (l .target) .word1) (record-at bs p .word1) ≡ false =
         ap (falls-short (λ q. record-at bs q .word1) p) (sym e) ∙ sym (steep-is bs (counts bs) ordered p k place listed)
         ∙ lowest-none (steep bs (counts bs)) (whole bs) (low-none .1) (leg-record bs (counts bs) p k) within in
-      rw (low-is p place, low-is (l .target) leads) (ltb-false _ _ flat)
+        rw (low-is p place, low-is (l .target) leads) (ltb-false _ _ flat)
 
     lawful : Lawful bs (counts bs)
-    lawful =
-      ( (λ p. cond-both (ltb p (places bs)) _ _ (λ x. x ≤ limit) (λ e. estimates p (ltb-true _ _ e) .0) (λ e. omega arith))
-      , (λ p. cond-both (ltb p (places bs)) _ _ (λ x. x ≤ limit) (λ e. estimates p (ltb-true _ _ e) .1) (λ e. omega arith))
-      , (λ p. cond-both (ltb p (places bs)) _ _ (λ x. x ≤ limit) (λ e. estimates p (ltb-true _ _ e) .2) (λ e. omega arith))
-      , consistent-admissible (floor-of bs (counts bs)) (record { goals = goal-zero; legs = leg-gentle })
-      )
+    lawful = (
+      (λ p. cond-both (ltb p (places bs)) _ _ (λ x. x ≤ limit) (λ e. estimates p (ltb-true _ _ e) .0) (λ e. omega arith)),
+      (λ p. cond-both (ltb p (places bs)) _ _ (λ x. x ≤ limit) (λ e. estimates p (ltb-true _ _ e) .1) (λ e. omega arith)),
+      (λ p. cond-both (ltb p (places bs)) _ _ (λ x. x ≤ limit) (λ e. estimates p (ltb-true _ _ e) .2) (λ e. omega arith)),
+      consistent-admissible (floor-of bs (counts bs)) (record { goals = goal-zero; legs = leg-gentle }),
+    )
 
 -- The same of counts that were found, as the intake meets them.
 pub read-fine : (bs : List ℕ) (n : Counts) → ((i : ℕ) → getD bs i 0 < 256) → n ≡ counts bs

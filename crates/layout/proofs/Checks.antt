@@ -24,18 +24,18 @@ module _ (bs : List ℕ) (n : Counts) (counted : n ≡ counts bs) (shaped : acce
   pub record-refused : (r : Result Counts LayoutFault) (fault : RecordFault) (y : LayoutFault) → r ≡ Err y → y ≡ Record fault
       → record-verdict fault ≡ each-record bs n → Checked bs r
   record-refused r fault y is turned e = refusal bs r y is (ap layout-verdict turned
-    ∙ then-past (shape bs) _ shaped (then-record fault (each-record bs (counts bs)) _ (e ∙ ap (each-record bs) counted)))
+      ∙ then-past (shape bs) _ shaped (then-record fault (each-record bs (counts bs)) _ (e ∙ ap (each-record bs) counted)))
 
   -- the low estimates are refused
   pub low-refused : (r : Result Counts LayoutFault) (fault y : LayoutFault) → r ≡ Err y → y ≡ fault
       → accepted ≡ each-record bs n → layout-verdict fault ≡ low-law bs n → Checked bs r
   low-refused r fault y is same read e = refusal bs r y is (ap layout-verdict same
-    ∙ then-past (shape bs) _ shaped (then-past (each-record bs (counts bs)) _ (read ∙ ap (each-record bs) counted) (e ∙ ap (low-law bs) counted)))
+      ∙ then-past (shape bs) _ shaped (then-past (each-record bs (counts bs)) _ (read ∙ ap (each-record bs) counted) (e ∙ ap (low-law bs) counted)))
 
   -- nothing is refused
   pub all-accepted : ((i : ℕ) → getD bs i 0 < 256) → accepted ≡ each-record bs n → accepted ≡ low-law bs n → Checked bs (Ok n)
-  all-accepted bytes read lows = record
-    { said = then-past (shape bs) _ shaped (then-past (each-record bs (counts bs)) _ (read ∙ ap (each-record bs) counted) (lows ∙ ap (low-law bs) counted))
-    ; divides = counted
-    ; fine = all-fine bs n bytes counted shaped read lows
-    }
+  all-accepted bytes read lows = record {
+    said = then-past (shape bs) _ shaped (then-past (each-record bs (counts bs)) _ (read ∙ ap (each-record bs) counted) (lows ∙ ap (low-law bs) counted));
+    divides = counted;
+    fine = all-fine bs n bytes counted shaped read lows;
+  }

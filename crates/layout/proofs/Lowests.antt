@@ -35,16 +35,16 @@ module _ (fails : ℕ → Bool) where
   unfolding step
   lowest-found i zero e f h = absurd (omega arith)
   lowest-found i (suc n) e f h = ⊎-elim
-    (λ (same : i ≡ n). rw (lowest-suc n, ← same, e, f))
-    (λ other. rw (lowest-suc n, lowest-found i n e f (omega arith)))
-    (cases-eq i n)
+      (λ (same : i ≡ n). rw (lowest-suc n, ← same, e, f))
+      (λ other. rw (lowest-suc n, lowest-found i n e f (omega arith)))
+      (cases-eq i n)
 
   -- where none fails, each passes
   pub lowest-none : (n : ℕ) → lowest fails n ≡ None → (i : ℕ) → i < n → fails i ≡ false
   lowest-none zero e i h = absurd (omega arith)
   lowest-none (suc n) e i h =
-    let both : (lowest fails n ≡ None) × (fails n ≡ false) = step-none (lowest fails n) (fails n) n (sym (lowest-suc n) ∙ e) in
-    ⊎-elim (λ (same : i ≡ n). rw (same, both .1)) (λ other. lowest-none n (both .0) i (omega arith)) (cases-eq i n)
+      let both : (lowest fails n ≡ None) × (fails n ≡ false) = step-none (lowest fails n) (fails n) n (sym (lowest-suc n) ∙ e) in
+      ⊎-elim (λ (same : i ≡ n). rw (same, both .1)) (λ other. lowest-none n (both .0) i (omega arith)) (cases-eq i n)
 
   -- where each passes, none fails
   pub lowest-all : (n : ℕ) → ((i : ℕ) → i < n → fails i ≡ false) → lowest fails n ≡ None

@@ -59,14 +59,14 @@ module _ (bs : List ℕ) where
   pub first-place : eqb (record-at bs 0 .tag) place-tag ≡ true → 1 ≤ places bs
   unfolding record-at
   first-place e = ⊎-elim
-    (λ (none : places bs < 1).
+      (λ (none : places bs < 1).
       let empty : places bs ≡ 0 = omega arith in
       ⊎-elim
-        (λ (some : places bs < whole bs). absurd (both-ways _ (subst (λ i. eqb (record-at bs i .tag) place-tag ≡ false) empty (is-no-place some)) e))
-        (λ (all : whole bs ≤ places bs). absurd (false≢true (sym (ap (λ (x : RawRecord). eqb (x .tag) place-tag) (cond-false (ltb 0 (whole bs)) (part-at bs 0) zeros (le-ltb 0 (whole bs) (omega arith)))) ∙ e)))
-        (cases-lt (places bs) (whole bs)))
-    (λ some. some)
-    (cases-lt (places bs) 1)
+      (λ (some : places bs < whole bs). absurd (both-ways _ (subst (λ i. eqb (record-at bs i .tag) place-tag ≡ false) empty (is-no-place some)) e))
+      (λ (all : whole bs ≤ places bs). absurd (false≢true (sym (ap (λ (x : RawRecord). eqb (x .tag) place-tag) (cond-false (ltb 0 (whole bs)) (part-at bs 0) zeros (le-ltb 0 (whole bs) (omega arith)))) ∙ e)))
+      (cases-lt (places bs) (whole bs)))
+      (λ some. some)
+      (cases-lt (places bs) 1)
 
   place-no-leg : (i : ℕ) → eqb (record-at bs i .tag) place-tag ≡ true → eqb (record-at bs i .tag) leg-tag ≡ false
   place-no-leg i e = ne-eqb _ _ (λ same. let at : record-at bs i .tag ≡ place-tag = eqb-true _ _ e in omega arith)
@@ -78,24 +78,24 @@ module _ (bs : List ℕ) where
   one-before : (j i : ℕ) → j < i → eqb (record-at bs j .tag) leg-tag ≡ true → leg-before bs i ≡ true
   one-before j zero h e = absurd (omega arith)
   one-before j (suc i) h e = ⊎-elim
-    (λ same. or-right _ _ (subst (λ k. eqb (record-at bs k .tag) leg-tag ≡ true) same e))
-    (λ other. or-left _ _ (one-before j i (omega arith) e))
-    (cases-eq j i)
+      (λ same. or-right _ _ (subst (λ k. eqb (record-at bs k .tag) leg-tag ≡ true) same e))
+      (λ other. or-left _ _ (one-before j i (omega arith) e))
+      (cases-eq j i)
 
   agree : (i : ℕ) → i < whole bs → lowest (wrong-tag bs) i ≡ None → wrong-tag bs i ≡ short bs (places bs) i
   agree i within before = ⊎-elim
-    (λ (low : i < places bs). rw (is-place i low, none-before i (omega arith), lt-leb (places bs) i low))
-    (λ (high : places bs ≤ i). ⊎-elim
+      (λ (low : i < places bs). rw (is-place i low, none-before i (omega arith), lt-leb (places bs) i low))
+      (λ (high : places bs ≤ i). ⊎-elim
       (λ (same : i ≡ places bs).
-        rw (none-before i (omega arith), le-leb (places bs) i high)
-        (unmarked _ _ (subst (λ k. eqb (record-at bs k .tag) place-tag ≡ false) (sym same) (is-no-place (omega arith)))))
+      rw (none-before i (omega arith), le-leb (places bs) i high)
+      (unmarked _ _ (subst (λ k. eqb (record-at bs k .tag) place-tag ≡ false) (sym same) (is-no-place (omega arith)))))
       (λ other.
-        let passed : wrong-tag bs (places bs) ≡ false = lowest-none (wrong-tag bs) i before (places bs) (omega arith) in
-        let leg : eqb (record-at bs (places bs) .tag) leg-tag ≡ true = marked _ _ _ (is-no-place (omega arith)) passed in
-        rw (one-before (places bs) i (omega arith) leg, le-leb (places bs) i high) (behind _ _ (place-no-leg i)))
+      let passed : wrong-tag bs (places bs) ≡ false = lowest-none (wrong-tag bs) i before (places bs) (omega arith) in
+      let leg : eqb (record-at bs (places bs) .tag) leg-tag ≡ true = marked _ _ _ (is-no-place (omega arith)) passed in
+      rw (one-before (places bs) i (omega arith) leg, le-leb (places bs) i high) (behind _ _ (place-no-leg i)))
       (cases-eq i (places bs)))
-    (cases-lt i (places bs))
+      (cases-lt i (places bs))
 
   pub short-tags : (first : ℕ) → first ≡ places bs → lowest (short bs first) (whole bs) ≡ lowest (wrong-tag bs) (whole bs)
   short-tags first e =
-    ap (λ p. lowest (short bs p) (whole bs)) e ∙ sym (lowest-same (wrong-tag bs) (short bs (places bs)) (whole bs) agree)
+      ap (λ p. lowest (short bs p) (whole bs)) e ∙ sym (lowest-same (wrong-tag bs) (short bs (places bs)) (whole bs) agree)

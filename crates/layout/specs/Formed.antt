@@ -59,13 +59,14 @@ usable bs n p k l = by (ltb k (leg-count bs n p)) refl
   where
     read : Leg
     read = record { target = record-at bs (leg-record bs n p k) .word1; cost = record-at bs (leg-record bs n p k) .half }
+
     by : (b : Bool) → ltb k (leg-count bs n p) ≡ b → cond b (Some read) None ≡ Some l
         → (p < n .size) × (first-leg bs n p + k < first-leg bs n (p + 1))
         × (record-at bs (leg-record bs n p k) .word1 ≡ l .target) × (record-at bs (leg-record bs n p k) .half ≡ l .cost)
     by true test e =
-      let inside = within-list bs n p k (ltb-true k (leg-count bs n p) test) in
-      let same : read ≡ l = cc in
-      (inside .0, inside .1, ap (λ (x : Leg). x .target) same, ap (λ (x : Leg). x .cost) same)
+        let inside = within-list bs n p k (ltb-true k (leg-count bs n p) test) in
+        let same : read ≡ l = cc in
+        (inside .0, inside .1, ap (λ (x : Leg). x .target) same, ap (λ (x : Leg). x .cost) same)
     by false test e = let z : _≡_ {A = ℕ} 0 1 = cc in absurd (omega arith)
 
 -- Off the floor a value held by the number of places is its default.
@@ -75,42 +76,42 @@ off p size x y h = cond-false (ltb p size) x y (le-ltb p size h)
 module _ (bs : List ℕ) (n : Counts) (formed : Formed bs n) (low : ℕ → ℕ) where
   few-legs-of : (p : ℕ) → leg-count bs n p ≤ 65535
   few-legs-of p = cond-both (ltb p (n .size)) _ _ (λ x. x ≤ 65535)
-    (λ _. omega (arith, formed .0 .2, formed .1 .0 (p + 1))) (λ _. omega arith)
+      (λ _. omega (arith, formed .0 .2, formed .1 .0 (p + 1))) (λ _. omega arith)
 
   limits-of : ((p : ℕ) → low p ≤ limit) → Limits (floor-under low bs n)
-  limits-of lows = record
-    { some-place = formed .0 .0
-    ; few-places = formed .0 .1
-    ; few-legs = few-legs-of
-    ; targets = λ p k l e.
+  limits-of lows = record {
+    some-place = formed .0 .0;
+    few-places = formed .0 .1;
+    few-legs = few-legs-of;
+    targets = λ p k l e.
         let u = usable bs n p k l e in
-        subst (λ x. x < n .size) (u .2) (formed .1 .1 (first-leg bs n p + k) (omega (arith, u .1, formed .1 .0 (p + 1))))
-    ; costs = λ p k l e. subst (λ x. x ≤ 65535) (usable bs n p k l e .3) (formed .1 .2 (leg-record bs n p k))
-    ; lows = lows
-    }
+        subst (λ x. x < n .size) (u .2) (formed .1 .1 (first-leg bs n p + k) (omega (arith, u .1, formed .1 .0 (p + 1))));
+    costs = λ p k l e. subst (λ x. x ≤ 65535) (usable bs n p k l e .3) (formed .1 .2 (leg-record bs n p k));
+    lows = lows;
+  }
 
   outside-of : ((p : ℕ) → n .size ≤ p → low p ≡ 0) → Outside (floor-under low bs n)
-  outside-of lows = record
-    { no-legs = λ p h. off p (n .size) _ _ h
-    ; past-list = λ p k h. off k (leg-count bs n p) _ _ h
-    ; no-goal = λ p h. off p (n .size) _ _ h
-    ; no-low = lows
-    }
+  outside-of lows = record {
+    no-legs = λ p h. off p (n .size) _ _ h;
+    past-list = λ p k h. off k (leg-count bs n p) _ _ h;
+    no-goal = λ p h. off p (n .size) _ _ h;
+    no-low = lows;
+  }
 
 -- A draft, before its low estimates are looked at: under estimates of 0 the law is plain.
 pub draft-sound : (bs : List ℕ) (n : Counts) → Formed bs n → Sound (floor-under (λ _. 0) bs n)
-draft-sound bs n formed = record
-  { limits = limits-of bs n formed (λ _. 0) (λ p. omega arith)
-  ; outside = outside-of bs n formed (λ _. 0) (λ p h. refl)
-  ; admissible = λ p c route. omega arith
-  }
+draft-sound bs n formed = record {
+  limits = limits-of bs n formed (λ _. 0) (λ p. omega arith);
+  outside = outside-of bs n formed (λ _. 0) (λ p h. refl);
+  admissible = λ p c route. omega arith;
+}
 
 pub layout-sound : (bs : List ℕ) (n : Counts) → Formed bs n → Lawful bs n → Sound (floor-of bs n)
-layout-sound bs n formed lawful = record
-  { limits = limits-of bs n formed (low-of bs n) (lawful .0)
-  ; outside = outside-of bs n formed (low-of bs n) (λ p h. off p (n .size) _ _ h)
-  ; admissible = lawful .3
-  }
+layout-sound bs n formed lawful = record {
+  limits = limits-of bs n formed (low-of bs n) (lawful .0);
+  outside = outside-of bs n formed (low-of bs n) (λ p h. off p (n .size) _ _ h);
+  admissible = lawful .3;
+}
 
 pub layout-limited : (bs : List ℕ) (n : Counts) → Lawful bs n → Limited (guesses-of bs n)
 layout-limited bs n lawful = record { hopes = lawful .1; step-counts = lawful .2 }

@@ -29,6 +29,6 @@ pub record Taken (layout : Vec ℕ Global) (r : Result LayoutFloor Refused) : Ty
   pub said : says (λ (x : Refused). layout-verdict (x .fault)) r ≡ verdict (vec-items layout)
   -- an accepted layout's floor means what its bytes describe, guesses included, and keeps the bytes
   pub floor : made r (λ f. (floor-meaning f ≡ floor-of (vec-items layout) (counts (vec-items layout)))
-    × (floor-guesses f ≡ guesses-of (vec-items layout) (counts (vec-items layout))) × (floor-bytes f ≡ layout))
+      × (floor-guesses f ≡ guesses-of (vec-items layout) (counts (vec-items layout))) × (floor-bytes f ≡ layout))
   -- a refusal hands the bytes back as they were
   pub back : refused r (λ x. x .layout ≡ layout)

@@ -8,3 +8,4 @@ pub mod Verdict
 pub mod Faults
 pub mod Checked
 pub mod Intake
+pub mod Sample

@@ -16,14 +16,14 @@ word-at bs i = getD bs i 0 + getD bs (i + 1) 0 * 256 + getD bs (i + 2) 0 * 65536
 
 -- The 16 bytes from byte i on, by their parts.
 abbrev pub part-at : List ℕ → ℕ → RawRecord
-part-at bs i = record
-  { tag = getD bs i 0
-  ; flag = getD bs (i + 1) 0
-  ; half = half-at bs (i + 2)
-  ; word1 = word-at bs (i + 4)
-  ; word2 = word-at bs (i + 8)
-  ; word3 = word-at bs (i + 12)
-  }
+part-at bs i = record {
+  tag = getD bs i 0;
+  flag = getD bs (i + 1) 0;
+  half = half-at bs (i + 2);
+  word1 = word-at bs (i + 4);
+  word2 = word-at bs (i + 8);
+  word3 = word-at bs (i + 12);
+}
 
 -- How many whole records there are.
 abbrev pub whole : List ℕ → ℕ

@@ -1,14 +1,25 @@
 // The layout floor: 16-byte records of places and legs, taken in by nine questions.
-pub mod counts;
-pub mod fault;
-pub mod raw;
-pub mod record;
-pub mod question;
-pub mod records;
-pub mod shape;
-pub mod reading;
-pub mod draft;
-pub mod layout_floor;
-pub mod law;
-pub mod refused;
-pub mod intake;
+mod accept;
+mod counts;
+mod draft;
+mod fault;
+mod law;
+mod layout_floor;
+mod question;
+mod raw;
+mod reading;
+mod record;
+mod records;
+mod refused;
+mod sample;
+mod shape;
+
+pub use accept::intake;
+pub use fault::LayoutFault;
+pub use fault::LayoutFaultFromRecord;
+pub use fault::RecordFault;
+pub use layout_floor::LayoutFloor;
+pub use layout_floor::LayoutIsFloor;
+pub use layout_floor::LayoutIsGuided;
+pub use refused::Refused;
+pub use sample::six_places;

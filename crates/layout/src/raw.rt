@@ -18,7 +18,12 @@ fn word(layout: &[u8], from: usize) -> u32
     requires { ⌜ from + 4 ≤ length (now layout) ⌝ }
     ensures { λ r. ⌜ r ≡ word-at (now (layout .entry)) from ⌝ }
 {
-    u32::from_le_bytes([layout[from], layout[from + 1], layout[from + 2], layout[from + 3]])
+    u32::from_le_bytes([
+        layout[from],
+        layout[from + 1],
+        layout[from + 2],
+        layout[from + 3],
+    ])
 }
 
 // The 16 bytes from `from` on, by their parts.
@@ -43,6 +48,13 @@ pub fn raw_record(layout: &[u8], number: usize) -> RawRecord
     if number < layout.len() / 16 {
         part(layout, 16 * number)
     } else {
-        RawRecord { tag: 0, flag: 0, half: 0, word1: 0, word2: 0, word3: 0 }
+        RawRecord {
+            tag: 0,
+            flag: 0,
+            half: 0,
+            word1: 0,
+            word2: 0,
+            word3: 0,
+        }
     }
 }

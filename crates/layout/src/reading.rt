@@ -9,7 +9,11 @@ use floors::leg::Leg;
 fn first_leg(layout: &[u8], counts: Counts, place: u32) -> u32
     ensures { λ r. ⌜ r ≡ first-leg (now (layout .entry)) counts place ⌝ }
 {
-    if place < counts.places { u32::from(raw_record(layout, place as usize).half) } else { counts.legs }
+    if place < counts.places {
+        u32::from(raw_record(layout, place as usize).half)
+    } else {
+        counts.legs
+    }
 }
 
 // The record of the place's leg of that number.
@@ -36,7 +40,10 @@ pub fn leg_of(layout: &[u8], counts: Counts, place: u32, number: u32) -> Option<
 {
     if number < leg_count(layout, counts, place) {
         let raw = raw_record(layout, leg_record(layout, counts, place, number));
-        Some(Leg { target: raw.word1, cost: u32::from(raw.half) })
+        Some(Leg {
+            target: raw.word1,
+            cost: u32::from(raw.half),
+        })
     } else {
         None
     }
@@ -53,19 +60,31 @@ pub fn goal_of(layout: &[u8], counts: Counts, place: u32) -> bool
 pub fn low_of(layout: &[u8], counts: Counts, place: u32) -> u32
     ensures { λ r. ⌜ r ≡ low-of (now (layout .entry)) counts place ⌝ }
 {
-    if place < counts.size { raw_record(layout, place as usize).word1 } else { 0 }
+    if place < counts.size {
+        raw_record(layout, place as usize).word1
+    } else {
+        0
+    }
 }
 
 // The place's guessed cost to go.
 pub fn hope_of(layout: &[u8], counts: Counts, place: u32) -> u32
     ensures { λ r. ⌜ r ≡ hope-of (now (layout .entry)) counts place ⌝ }
 {
-    if place < counts.size { raw_record(layout, place as usize).word2 } else { 0 }
+    if place < counts.size {
+        raw_record(layout, place as usize).word2
+    } else {
+        0
+    }
 }
 
 // The place's guessed number of legs to go.
 pub fn steps_of(layout: &[u8], counts: Counts, place: u32) -> u32
     ensures { λ r. ⌜ r ≡ steps-of (now (layout .entry)) counts place ⌝ }
 {
-    if place < counts.size { raw_record(layout, place as usize).word3 } else { 0 }
+    if place < counts.size {
+        raw_record(layout, place as usize).word3
+    } else {
+        0
+    }
 }

@@ -16,7 +16,9 @@ use crate::question::put;
 use crate::raw::raw_record;
 
 pub const PLACE_TAG: u8 = 83;
+
 const LEG_TAG: u8 = 65;
+
 const LIMIT: u32 = 268_365_825;
 
 // No place record.

@@ -26,14 +26,22 @@ use crate::records::WrongTagTest;
 fn check_length(layout: &[u8]) -> Result<(), LayoutFault>
     ensures { λ r. ⌜ says layout-verdict r ≡ asked 1 (broken-length (now (layout .entry))) ⌝ }
 {
-    if layout.len() % 16 == 0 { Ok(()) } else { Err(LayoutFault::Length(layout.len() / 16)) }
+    if layout.len() % 16 == 0 {
+        Ok(())
+    } else {
+        Err(LayoutFault::Length(layout.len() / 16))
+    }
 }
 
 // Question 2.
 fn check_first(layout: &[u8]) -> Result<(), LayoutFault>
     ensures { λ r. ⌜ says layout-verdict r ≡ asked 2 (no-first-place (now (layout .entry))) ⌝ }
 {
-    if raw_record(layout, 0).tag == PLACE_TAG { Ok(()) } else { Err(LayoutFault::FirstRecord) }
+    if raw_record(layout, 0).tag == PLACE_TAG {
+        Ok(())
+    } else {
+        Err(LayoutFault::FirstRecord)
+    }
 }
 
 // How many place records stand first.
@@ -65,7 +73,11 @@ fn check_counts(whole: usize, places: usize) -> Result<Counts, LayoutFault>
     if legs > 65_535 {
         return Err(LayoutFault::TooMany(places + 65_535));
     }
-    Ok(Counts { size: places as u32, places: places as u32, legs: legs as u32 })
+    Ok(Counts {
+        size: places as u32,
+        places: places as u32,
+        legs: legs as u32,
+    })
 }
 
 // Questions 1 to 4; where all are answered yes, how the layout divides.

@@ -2,7 +2,7 @@ use mir.Facts.{fits-lt-pow}
 use Rattle.std.proofs.shelf.Results.{err-from-errBy}
 use Rattle.layout.proofs.Accepted.{read-fine}
 use Rattle.layout.proofs.Checks.{record-refused, low-refused, all-accepted}
-use Rattle.layout.proofs.intake.check.Needs as need
+use Rattle.layout.proofs.accept.check.Needs as need
 
 pub returns-in-Break-read-records : need.returns-in-Break-read-records
 returns-in-Break-read-records c =
