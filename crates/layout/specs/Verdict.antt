@@ -13,6 +13,15 @@ pub data Verdict : Type 0 where
   accepted : Verdict
   refused : (number at-record : ℕ) → Verdict
 
+-- The number and the record of a refusal.
+abbrev pub number-of : Verdict → ℕ
+number-of accepted = 0
+number-of (refused number r) = number
+
+abbrev pub record-of : Verdict → ℕ
+record-of accepted = 0
+record-of (refused number r) = r
+
 -- A question put: its number, and the record that fails it, if there is one.
 abbrev pub asked : ℕ → Option ℕ → Verdict
 asked number None = accepted

@@ -31,6 +31,13 @@ impl LayoutFloor {
         LayoutFloor { layout, counts }
     }
 
+    // How many leg records the layout has.
+    pub fn leg_records(&self) -> u32
+        ensures { λ r. ⌜ r ≡ now (self .entry) .counts .legs ⌝ }
+    {
+        self.counts.legs
+    }
+
     // The bytes again.
     pub fn into_bytes(self) -> Vec<u8>
         ensures { λ r. ⌜ r ≡ self .layout ⌝ }

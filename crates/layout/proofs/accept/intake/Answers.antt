@@ -19,6 +19,7 @@ returns-in-Ok c =
         ap₂ (λ v n. floor-of (vec-items v) n) (c .new .ensures .0) divides,
         ap₂ (λ v n. guesses-of (vec-items v) n) (c .new .ensures .0) divides,
         c .new .ensures .0,
+        divides,
       );
       back = tt;
     }
