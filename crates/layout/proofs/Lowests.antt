@@ -8,7 +8,7 @@ use native.Mathlib.Omega.{arith}
 use Rattle.std.proofs.shelf.Tests.{cases-eq}
 use Rattle.std.specs.declared.option.Option.{Option}
 use Rattle.std.specs.declared.option.Option.the-variants.{Some, None}
-use Rattle.layout.specs.Lowest.{lowest}
+use Rattle.layout.specs.Lowest.{lowest, IsLowest}
 
 -- What a step of `lowest` gives, by what came before and by the test.
 step : Option ℕ → Bool → ℕ → Option ℕ
@@ -75,3 +75,8 @@ lowest-some fails (suc n) r e = ⊎-elim
     (λ earlier. let s = lowest-some fails n r earlier in (omega (arith, s .0), s .1, s .2))
     (λ now. (omega (arith, now .2), subst (λ k. fails k ≡ true) (now .2) (now .1), subst (λ k. lowest fails k ≡ None) (now .2) (now .0)))
     (step-some (lowest fails n) (fails n) n r (sym (lowest-suc fails n) ∙ e))
+
+-- What the lowest failure is, there is only one of.
+pub is-lowest : (fails : ℕ → Bool) (n : ℕ) (o : Option ℕ) → IsLowest fails n o → o ≡ lowest fails n
+is-lowest fails n None pass = sym (lowest-all fails n pass)
+is-lowest fails n (Some i) (within, failing, pass) = sym (lowest-found fails i n (lowest-all fails i pass) failing within)

@@ -8,4 +8,5 @@ pub mod Verdict
 pub mod Faults
 pub mod Checked
 pub mod Intake
+pub mod Encoding
 pub mod Sample

@@ -1,32 +1,23 @@
 -- Six places, worked through.
-use Prim.Native.Nat.{ℕ, _/_, _%_}
+use Prim.Native.Nat.{ℕ}
 use mathlib.Core.Bool.{true, false}
-use mathlib.Core.List.{List, [], _∷_, _++_}
+use mathlib.Core.List.{List, [], _∷_}
 use mathlib.Core.Path.{_≡_}
+use Rattle.std.specs.Joined.{joined}
 use Rattle.floors.specs.Guided.{guided}
 use Rattle.floors.specs.Listing.{Listed, leg-to, listing}
+use Rattle.layout.specs.Encoding.{place-bytes, leg-bytes}
 use Rattle.layout.specs.Layout.{counts, floor-of, guesses-of}
-use Rattle.layout.specs.Records.{record-at}
 use Rattle.layout.specs.Verdict.{accepted, refused, verdict}
 
--- A number in two bytes and in four, lowest byte first.
-abbrev half : ℕ → List ℕ
-half n = n % 256 ∷ n / 256 ∷ []
-
-abbrev word : ℕ → List ℕ
-word n = n % 256 ∷ n / 256 % 256 ∷ n / 65536 % 256 ∷ n / 16777216 ∷ []
-
-abbrev place : (goal first low hope steps : ℕ) → List ℕ
-place goal first low hope steps = 83 ∷ goal ∷ half first ++ (word low ++ (word hope ++ word steps))
-
-abbrev leg : (cost target : ℕ) → List ℕ
-leg cost target = 65 ∷ 0 ∷ half cost ++ (word target ++ (word 0 ++ word 0))
-
 -- Places 0 to 5, of which 5 is the goal; the low estimate of place 2 is left open. Then their legs.
+abbrev pub six-records : ℕ → List (List ℕ)
+six-records low2 =
+    place-bytes 0 0 4 6 3 ∷ place-bytes 0 2 4 5 2 ∷ place-bytes 0 3 low2 8 2 ∷ place-bytes 0 5 2 3 1 ∷ place-bytes 0 6 1 1 1 ∷ place-bytes 1 7 0 0 0
+    ∷ leg-bytes 1 2 ∷ leg-bytes 2 1 ∷ leg-bytes 3 2 ∷ leg-bytes 3 5 ∷ leg-bytes 4 4 ∷ leg-bytes 5 3 ∷ leg-bytes 5 1 ∷ []
+
 abbrev pub six-places : ℕ → List ℕ
-six-places low2 =
-    place 0 0 4 6 3 ++ (place 0 2 4 5 2 ++ (place 0 3 low2 8 2 ++ (place 0 5 2 3 1 ++ (place 0 6 1 1 1 ++ (place 1 7 0 0 0
-    ++ (leg 2 1 ++ (leg 1 2 ++ (leg 2 3 ++ (leg 5 3 ++ (leg 4 4 ++ (leg 3 5 ++ leg 1 5)))))))))))
+six-places low2 = joined (λ (bytes : List ℕ). bytes) (six-records low2)
 
 -- The floor: for each place its low, hope and step estimates, whether it is a goal, and its legs.
 abbrev six-floor : List Listed

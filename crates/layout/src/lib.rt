@@ -2,6 +2,7 @@
 mod accept;
 mod counts;
 mod draft;
+mod encode;
 mod fault;
 mod law;
 mod layout_floor;
@@ -15,6 +16,8 @@ mod sample;
 mod shape;
 
 pub use accept::intake;
+pub use encode::encode_leg;
+pub use encode::encode_place;
 pub use fault::LayoutFault;
 pub use fault::LayoutFaultFromRecord;
 pub use fault::RecordFault;

@@ -5,7 +5,7 @@ ghost use mathlib.Core.List.{List};
 ghost use denote.Ref.{now};
 ghost use Prim.Native.Nat.{ℕ};
 ghost use Rattle.layout.specs.Faults.{record-verdict, says};
-ghost use Rattle.layout.specs.Lowest.{lowest};
+ghost use Rattle.layout.specs.Lowest.{lowest, IsLowest};
 ghost use Rattle.layout.specs.Verdict.{asked, refused};
 use crate::fault::RecordFault;
 
@@ -25,9 +25,9 @@ pub trait Question: Test {
         ensures { λ r. ⌜ record-verdict r ≡ refused number index ⌝ };
 }
 
-// The lowest of the first `records` records that fails the test.
-pub fn lowest_failing<T: Test>(test: &T, layout: &[u8], records: usize) -> Option<usize>
-    ensures { λ r. ⌜ r ≡ lowest (T·Test .failing (now (test .entry)) (now (layout .entry))) records ⌝ }
+// The lowest of the first `records` records that fails the test, by what it is.
+fn find_failing<T: Test>(test: &T, layout: &[u8], records: usize) -> Option<usize>
+    ensures { λ r. ⌜ IsLowest (T·Test .failing (now (test .entry)) (now (layout .entry))) records r ⌝ }
 {
     for index in 0..records {
         if test.fails(layout, index) {
@@ -35,6 +35,13 @@ pub fn lowest_failing<T: Test>(test: &T, layout: &[u8], records: usize) -> Optio
         }
     }
     None
+}
+
+// The lowest of the first `records` records that fails the test.
+pub fn lowest_failing<T: Test>(test: &T, layout: &[u8], records: usize) -> Option<usize>
+    ensures { λ r. ⌜ r ≡ lowest (T·Test .failing (now (test .entry)) (now (layout .entry))) records ⌝ }
+{
+    find_failing(test, layout, records)
 }
 
 // The question put to the first `records` records: the fault names the lowest that fails.

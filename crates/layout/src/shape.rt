@@ -46,7 +46,8 @@ fn check_first(layout: &[u8]) -> Result<(), LayoutFault>
 
 // How many place records stand first.
 fn count_places(layout: &[u8]) -> usize
-    ensures { λ r. ⌜ r ≡ place-count (now (layout .entry)) ⌝ }
+    ensures count { λ r. ⌜ r ≡ place-count (now (layout .entry)) ⌝ }
+    ensures within { λ r. ⌜ r ≤ whole-records (now (layout .entry)) ⌝ }
 {
     let whole = layout.len() / 16;
     lowest_failing(&NoPlace, layout, whole).unwrap_or(whole)
