@@ -1,0 +1,7 @@
+pub mod Records
+pub mod Choice
+pub mod Expansion
+pub mod Advance
+pub mod Begin
+pub mod Read
+pub mod Cases
