@@ -1,7 +1,8 @@
 -- The records of the places.
-use Prim.Native.Nat.{ℕ, _+_}
+use Prim.Native.Nat.{ℕ, _+_, _≤_}
 use mathlib.Core.Bool.{Bool}
 use mathlib.Core.List.{List}
+use mathlib.Core.Path.{_≡_}
 use lib.Dec.{eqb}
 use lib.ListN.{getD}
 use Rattle.search_model.specs.declared.records.Record.{Record}
@@ -29,3 +30,13 @@ f r = r .label + r .low
 -- f̂: the label and the hope estimate.
 abbrev pub f-hat : Record → ℕ
 f-hat r = r .label + r .hope
+
+-- What the marks say of a place.
+abbrev pub Seen : List Record → ℕ → Type 0
+Seen records p = 1 ≤ at records p .mark
+
+abbrev pub Open : List Record → ℕ → Type 0
+Open records p = at records p .mark ≡ 1
+
+abbrev pub Closed : List Record → ℕ → Type 0
+Closed records p = at records p .mark ≡ 2

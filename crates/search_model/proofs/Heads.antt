@@ -1,0 +1,114 @@
+-- Which places are low, hope and near, for code that keeps them at the heads of queues.
+use Prim.Native.Nat.{ℕ, _*_, _≤_, _<_}
+use mathlib.Core.Bool.{true, false}
+use mathlib.Core.List.{List}
+use mathlib.Core.Logic.{_⊎_, inl, inr, ⊎-elim}
+use mathlib.Core.Path.{_≡_, refl, _∙_, ap}
+use native.Mathlib.Omega.{arith}
+use lib.Dec.{leb}
+use lib.ListN.{length}
+use Rattle.std.specs.declared.option.Option.{Option}
+use Rattle.std.specs.declared.option.Option.the-variants.{Some, None}
+use Rattle.std.proofs.shelf.Tests.{lt-ltb, le-ltb, eq-eqb, eqb-true, le-leb, leb-true, and-from, and-parts}
+use Rattle.std.proofs.shelf.Ways.{tells}
+use Rattle.search_model.specs.declared.records.Record.{Record}
+use Rattle.search_model.specs.declared.search.Search.{Search}
+use Rattle.search_model.specs.Records.{at, is-open, f, f-hat, Open}
+use Rattle.search_model.specs.Choice.{least, by-key, low-place, hope-place, near-place, within, is-near, rank, nearer}
+use Rattle.search_model.proofs.Least.{least-is, least-none, least-found}
+use Rattle.search_model.proofs.Table.{seen-on}
+use Rattle.search_model.proofs.Chosen.{by-key-ranks, near-ranks, near-open, head-open, head-least, head-missing}
+
+-- Key x at p comes before key y at q, or ties at a number that is not higher.
+abbrev pub Before : ℕ → ℕ → ℕ → ℕ → Type 0
+Before x p y q = (x < y) ⊎ ((x ≡ y) × (p ≤ q))
+
+-- The open place whose key comes before that of every open place is the head.
+head-is :
+  (key : Record → ℕ) (t : List Record) (p : ℕ)
+  → Open t p
+  → ((q : ℕ) → Open t q → Before (key (at t p)) p (key (at t q)) q)
+  → least (λ q. is-open (at t q)) (by-key key t) (length t) ≡ Some p
+head-is key t p o h =
+    least-is
+      (λ q. is-open (at t q))
+      (by-key key t)
+      (by-key-ranks key t)
+      (length t)
+      p
+      (seen-on t p (omega arith))
+      (eq-eqb (at t p .mark) 1 o)
+      (λ q l e.
+        ⊎-elim
+          (λ x. inl (lt-ltb (key (at t p)) (key (at t q)) x))
+          (λ x. inr (le-ltb (key (at t q)) (key (at t p)) (omega (arith, x .0)), x .1))
+          (h q (eqb-true (at t q .mark) 1 e)))
+
+head-none : (key : Record → ℕ) (t : List Record) → ((q : ℕ) → Open t q → ⊥) → least (λ q. is-open (at t q)) (by-key key t) (length t) ≡ None
+head-none key t h = least-none (λ q. is-open (at t q)) (by-key key t) (by-key-ranks key t) (length t) (λ q l e. h q (eqb-true (at t q .mark) 1 e))
+
+-- Low.
+pub low-is : (t : List Record) (p : ℕ) → Open t p → ((q : ℕ) → Open t q → Before (f (at t p)) p (f (at t q)) q) → low-place t ≡ Some p
+low-is = head-is f
+
+pub low-none : (t : List Record) → ((q : ℕ) → Open t q → ⊥) → low-place t ≡ None
+low-none = head-none f
+
+pub low-missing : (t : List Record) → low-place t ≡ None → (q : ℕ) → Open t q → ⊥
+low-missing = head-missing f
+
+-- Hope.
+pub hope-is : (t : List Record) (p : ℕ) → Open t p → ((q : ℕ) → Open t q → Before (f-hat (at t p)) p (f-hat (at t q)) q) → hope-place t ≡ Some p
+hope-is = head-is f-hat
+
+pub hope-none : (t : List Record) → ((q : ℕ) → Open t q → ⊥) → hope-place t ≡ None
+hope-none = head-none f-hat
+
+pub hope-missing : (t : List Record) → hope-place t ≡ None → (q : ℕ) → Open t q → ⊥
+hope-missing = head-missing f-hat
+
+-- p is in the near set of the least f̂ h.
+pub record Near (s : Search) (t : List Record) (h p : ℕ) : Type 0 where
+  pub opened : Open t p
+  pub close : s .bound .b * f-hat (at t p) ≤ s .bound .a * h
+
+-- Near places by rank, then by f̂, then by number.
+abbrev pub NearBefore : Search → List Record → ℕ → ℕ → Type 0
+NearBefore s t p q =
+    (rank s (at t p) < rank s (at t q)) ⊎ ((rank s (at t p) ≡ rank s (at t q)) × Before (f-hat (at t p)) p (f-hat (at t q)) q)
+
+near-test : (s : Search) (t : List Record) (h p : ℕ) → is-near s h (at t p) ≡ true → Near s t h p
+near-test s t h p e =
+    let both : (is-open (at t p) ≡ true) × (within s h (at t p) ≡ true) = and-parts (is-open (at t p)) (within s h (at t p)) e in
+    record {
+      opened = eqb-true (at t p .mark) 1 (both .0);
+      close = leb-true (s .bound .b * f-hat (at t p)) (s .bound .a * h) (both .1);
+    }
+
+pub near-is :
+  (s : Search) (t : List Record) (h p : ℕ)
+  → hope-place t ≡ Some h
+  → Near s t (f-hat (at t h)) p
+  → ((q : ℕ) → Near s t (f-hat (at t h)) q → NearBefore s t p q)
+  → near-place s t ≡ Some p
+near-is s t h p e n first = rw (e, near-place) found
+  where
+    ordered : (q : ℕ) → NearBefore s t p q → (nearer s (at t p) (at t q) ≡ true) ⊎ ((nearer s (at t q) (at t p) ≡ false) × (p ≤ q))
+    ordered q (inl x) = inl (grind (arith, tells))
+    ordered q (inr (e, inl x)) = inl (grind (arith, tells))
+    ordered q (inr (e, inr x)) = inr (grind (arith, tells), x .1)
+    found : least (λ q. is-near s (f-hat (at t h)) (at t q)) (λ q r. nearer s (at t q) (at t r)) (length t) ≡ Some p
+    found =
+        least-is
+          (λ q. is-near s (f-hat (at t h)) (at t q))
+          (λ q r. nearer s (at t q) (at t r))
+          (near-ranks s t)
+          (length t)
+          p
+          (seen-on t p (omega arith))
+          (and-from (is-open (at t p)) (within s (f-hat (at t h)) (at t p)) (eq-eqb (at t p .mark) 1 (n .opened)) (le-leb (s .bound .b * f-hat (at t p)) (s .bound .a * f-hat (at t h)) (n .close)))
+          (λ q l x. ordered q (first q (near-test s t (f-hat (at t h)) q x)))
+
+-- f̂ of near is at least f̂ of hope.
+pub hope-before-near : (s : Search) (t : List Record) (h p : ℕ) → hope-place t ≡ Some h → near-place s t ≡ Some p → f-hat (at t h) ≤ f-hat (at t p)
+hope-before-near s t h p e n = head-least f-hat t h e p (near-open s t p n)
