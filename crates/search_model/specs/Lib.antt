@@ -4,4 +4,6 @@ pub mod Expansion
 pub mod Advance
 pub mod Begin
 pub mod Read
+pub mod Fields
+pub mod Ending
 pub mod Cases

@@ -1,0 +1,112 @@
+-- A place that is given a label never raises the potential, and a place that is closed lowers it by one.
+use Prim.Native.Nat.{ℕ, zero, suc, _+_, _≤_, _<_}
+use mathlib.Core.List.{List}
+use mathlib.Core.Logic.{_⊎_, inl, inr, ⊎-elim}
+use mathlib.Core.Path.{_≡_, refl, _∙_}
+use native.Mathlib.Nat.{le-refl}
+use native.Mathlib.Omega.{arith}
+use lib.ListN.{length, set}
+use Rattle.std.proofs.shelf.Tests.{cases-eq}
+use Rattle.floors.specs.declared.leg.Leg.{Leg}
+use Rattle.floors.specs.Guided.{Guided, SoundGuided}
+use Rattle.floors.specs.Sound.{limit}
+use Rattle.search_model.specs.declared.records.Record.{Record}
+use Rattle.search_model.specs.declared.search.Search.{Search}
+use Rattle.search_model.specs.Records.{at, Open}
+use Rattle.search_model.specs.Expansion.{closed, expanded}
+use Rattle.search_model.specs.Advance.{Outcome, expansions, going}
+use Rattle.search_model.specs.Ending.{weight, potential, Ending}
+use Rattle.search_model.proofs.Table.{Changed}
+use Rattle.search_model.proofs.Labels.{weight-unseen, weight-open, weight-closed, weight-seen, Given, given-label, given-record, closing}
+use Rattle.search_model.proofs.Chosen.{Picked}
+use Rattle.search_model.proofs.Rules.{Kept, spread-rule, Ended, KeptByExpansion, going-rule}
+
+-- A label given to a place, which an unseen place must outweigh.
+pub given-potential :
+  (u : ℕ) {t v : List Record} {q : ℕ} {r : Record}
+  → Changed t q r v
+  → r .mark ≡ 1
+  → (at t q .mark ≡ 0 → r .label < u)
+  → (at t q .mark ≡ 0) ⊎ (r .label < at t q .label)
+  → potential u v ≤ potential u t
+given-potential u {t} {v} {q} {r} c opened low taken = ⊎-elim fresh (λ ne. ⊎-elim fresh (lower ne) taken) (cases-eq (at t q .mark) 0)
+  where
+    falls : weight u r ≤ weight u (at t q) → potential u v ≤ potential u t
+    falls h =
+        let sums : potential u v + weight u (at t q) ≡ potential u t + weight u r = c .sums (weight u) in
+        omega arith
+    fresh : at t q .mark ≡ 0 → potential u v ≤ potential u t
+    fresh e =
+        let new : weight u r ≡ r .label + 1 = weight-open u r opened in
+        let old : weight u (at t q) ≡ u = weight-unseen u (at t q) e in
+        let l : r .label < u = low e in
+        falls (omega arith)
+    lower : (at t q .mark ≡ 0 → ⊥) → r .label < at t q .label → potential u v ≤ potential u t
+    lower ne l =
+        let new : weight u r ≡ r .label + 1 = weight-open u r opened in
+        let old : at t q .label ≤ weight u (at t q) = weight-seen u (at t q) (omega arith) in
+        falls (omega arith)
+
+-- An open place that is closed.
+pub closed-potential :
+  (u : ℕ) {t v : List Record} {n : ℕ} → Changed t n (closed (at t n)) v → Open t n → potential u v + 1 ≡ potential u t
+closed-potential u {t} {v} {n} c opened =
+    let sums : potential u v + weight u (at t n) ≡ potential u t + weight u (closed (at t n)) = c .sums (weight u) in
+    let old : weight u (at t n) ≡ at t n .label + 1 = weight-open u (at t n) opened in
+    let new : weight u (closed (at t n)) ≡ at t n .label = weight-closed u (closed (at t n)) refl in
+    omega arith
+
+-- The two at a whole expansion, over any records.
+module _ (g : Guided) (sound : SoundGuided g) where
+  -- The records still stand one for each place, and their potential has fallen to x.
+  record Fallen (x : ℕ) (k : ℕ) (t : List Record) : Type 0 where
+    sized : length t ≡ g .floor .size
+    below : potential (limit + 1) t ≤ x
+
+  legs-fall : (n x : ℕ) → Kept g n (Fallen x)
+  legs-fall n x =
+      record {
+        barred = λ k t e p. record { sized = p .sized; below = p .below };
+        passed = λ k t l e h p. record { sized = p .sized; below = p .below };
+        given = λ k t l e h p. taken k t l (given-label g t n k l sound (p .sized) e h) p;
+      }
+    where
+      taken : (k : ℕ) (t : List Record) (l : Leg) → Given g t n k l → Fallen x k t → Fallen x (suc k) (set t (l .target) (given-record g t n k l))
+      taken k t l h p =
+          let lower : potential (limit + 1) (set t (l .target) (given-record g t n k l)) ≤ potential (limit + 1) t =
+            given-potential (limit + 1) (h .change) refl (λ _. omega (arith, h .small)) (h .reason) in
+          record { sized = h .change .sized ∙ p .sized; below = omega (arith, p .below) }
+
+  -- After k expansions the potential has fallen by k from x.
+  record FallenBy (x : ℕ) (k : ℕ) (s : Search) (t : List Record) : Type 0 where
+    sized : length t ≡ g .floor .size
+    below : potential (limit + 1) t + k ≤ x
+
+  expansion-falls : (x : ℕ) → KeptByExpansion g (FallenBy x)
+  expansion-falls x k s t n h p =
+      let c : Changed t n (closed (at t n)) (set t n (closed (at t n))) = closing t n (h .opened) in
+      let one : potential (limit + 1) (set t n (closed (at t n))) + 1 ≡ potential (limit + 1) t = closed-potential (limit + 1) c (h .opened) in
+      let all : Fallen (potential (limit + 1) (set t n (closed (at t n)))) (g .floor .count n) (expanded g n t) =
+        spread-rule
+          g
+          n
+          (Fallen (potential (limit + 1) (set t n (closed (at t n)))))
+          (legs-fall n (potential (limit + 1) (set t n (closed (at t n)))))
+          (set t n (closed (at t n)))
+          (record { sized = c .sized ∙ p .sized; below = le-refl (potential (limit + 1) (set t n (closed (at t n)))) })
+          (g .floor .count n) in
+      record { sized = all .sized; below = omega (arith, all .below, p .below) }
+
+pub ending : Ending
+ending g budget s t sound sized =
+    let e : Ended g (FallenBy g sound (potential (limit + 1) t)) 0 budget (going g budget s t) =
+      going-rule
+        g
+        (FallenBy g sound (potential (limit + 1) t))
+        (expansion-falls g sound (potential (limit + 1) t))
+        budget
+        0
+        s
+        t
+        (record { sized = sized; below = omega arith }) in
+    omega (arith, e .holds .below)
