@@ -6,3 +6,6 @@ pub mod Rules
 pub mod Labels
 pub mod Potential
 pub mod Limits
+pub mod Costs
+pub mod Invariant
+pub mod Steps

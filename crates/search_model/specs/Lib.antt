@@ -6,4 +6,5 @@ pub mod Begin
 pub mod Read
 pub mod Fields
 pub mod Ending
+pub mod Costs
 pub mod Cases
