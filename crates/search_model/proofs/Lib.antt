@@ -9,3 +9,4 @@ pub mod Limits
 pub mod Costs
 pub mod Invariant
 pub mod Steps
+pub mod Reached

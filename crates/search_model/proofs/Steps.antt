@@ -50,7 +50,7 @@ module _
   start-stays = stays start (h .start-seen) (omega (arith, h .start-label))
 
   -- Seen places stay seen, and their labels do not rise.
-  still-seen : (p : ℕ) → Seen t p → Seen u p
+  pub still-seen : (p : ℕ) → Seen t p → Seen u p
   still-seen p s =
       ⊎-elim (λ x. subst (λ (r : Record). 1 ≤ r .mark) (sym (x .1)) (omega arith)) (λ x. subst (λ (r : Record). 1 ≤ r .mark) (sym (x .1)) s) (changed-at c p)
 
