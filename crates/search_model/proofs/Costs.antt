@@ -36,7 +36,7 @@ module _ (m : Meaning) (sound : Sound m) where
       never : m .leg p k ≡ None → k < m .count p
       never n = let z : _≡_ {A = ℕ} 0 1 = cc in absurd (omega arith)
 
-  leg-place : (p k : ℕ) (l : Leg) → m .leg p k ≡ Some l → p < m .size
+  pub leg-place : (p k : ℕ) (l : Leg) → m .leg p k ≡ Some l → p < m .size
   leg-place p k l e = ⊎-elim (λ h. h) (λ h. absurd (omega (arith, leg-number p k l e, sound .outside .no-legs p h))) (cases-lt p (m .size))
 
   -- No usable leg costs more than the greatest cost.

@@ -10,3 +10,5 @@ pub mod Costs
 pub mod Invariant
 pub mod Steps
 pub mod Reached
+pub mod Frontier
+pub mod Trails
