@@ -11,4 +11,6 @@ pub mod Invariant
 pub mod Steps
 pub mod Reached
 pub mod Frontier
+pub mod Counts
 pub mod Trails
+pub mod Guaranteed

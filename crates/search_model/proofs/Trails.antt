@@ -1,5 +1,5 @@
 -- What is read from records is a route, and over the records of a search something is read.
-use Prim.Native.Nat.{ℕ, zero, suc, _+_, _≤_, _<_}
+use Prim.Native.Nat.{ℕ, zero, suc, _+_, _-_, _≤_, _<_}
 use mathlib.Core.Bool.{Bool, true, false}
 use mathlib.Core.List.{List, [], _∷_, _++_}
 use mathlib.Core.Logic.{_⊎_, inl, inr, ⊎-elim}
@@ -19,6 +19,7 @@ use Rattle.search_model.specs.declared.records.Record.{Record}
 use Rattle.search_model.specs.Records.{at, Seen}
 use Rattle.search_model.specs.Read.{Trail, extended, follow}
 use Rattle.search_model.proofs.Costs.{leg-place}
+use Rattle.search_model.proofs.Counts.{sum-below, sum-strict, sum-few}
 use Rattle.search_model.proofs.Invariant.{Chain, root, link}
 
 -- A route with one more leg at its end.
@@ -94,9 +95,14 @@ module _ (m : Meaning) (sound : Sound m) (start : ℕ) (on : start < m .size) (t
   -- It arrives at the start, or there is no usable leg from the parent to p, or the trail comes from the parent.
   data Back (p : ℕ) : Type 0 where
     arrives : p ≡ start → ((n : ℕ) → follow m start t (suc n) p ≡ Some (record { places = p ∷ []; cost = 0 })) → Back p
-    lost : ((n : ℕ) → follow m start t (suc n) p ≡ None) → Back p
+    lost :
+      (p ≡ start → ⊥)
+      → ((l : Leg) → m .leg (at t p .parent) (at t p .leg) ≡ Some l → l .target ≡ p → ⊥)
+      → ((n : ℕ) → follow m start t (suc n) p ≡ None)
+      → Back p
     comes :
-      (l : Leg)
+      (p ≡ start → ⊥)
+      → (l : Leg)
       → m .leg (at t p .parent) (at t p .leg) ≡ Some l
       → l .target ≡ p
       → ((n : ℕ) → follow m start t (suc n) p ≡ extended (l .cost) p (follow m start t n (at t p .parent)))
@@ -109,10 +115,23 @@ module _ (m : Meaning) (sound : Sound m) (start : ℕ) (on : start < m .size) (t
       x n = follow m start t n (at t p .parent)
       by-target : (l : Leg) → eqb p start ≡ false → m .leg (at t p .parent) (at t p .leg) ≡ Some l → (b : Bool) → eqb (l .target) p ≡ b → Back p
       by-target l e h true u =
-          comes l h (eqb-true (l .target) p u) (λ n. follow-back n p ∙ ap (λ b. back-start b p (x n)) e ∙ ap (λ o. back-leg o p (x n)) h ∙ ap (λ b. back-target b l p (x n)) u)
-      by-target l e h false u = lost (λ n. follow-back n p ∙ ap (λ b. back-start b p (x n)) e ∙ ap (λ o. back-leg o p (x n)) h ∙ ap (λ b. back-target b l p (x n)) u)
+          comes
+            (eqb-false p start e)
+            l
+            h
+            (eqb-true (l .target) p u)
+            (λ n. follow-back n p ∙ ap (λ b. back-start b p (x n)) e ∙ ap (λ o. back-leg o p (x n)) h ∙ ap (λ b. back-target b l p (x n)) u)
+      by-target l e h false u =
+          lost
+            (eqb-false p start e)
+            (λ d y z. let same : d ≡ l = cc in eqb-false (l .target) p u (ap (λ (l : Leg). l .target) (sym same) ∙ z))
+            (λ n. follow-back n p ∙ ap (λ b. back-start b p (x n)) e ∙ ap (λ o. back-leg o p (x n)) h ∙ ap (λ b. back-target b l p (x n)) u)
       by-leg : eqb p start ≡ false → (o : Option Leg) → m .leg (at t p .parent) (at t p .leg) ≡ o → Back p
-      by-leg e None h = lost (λ n. follow-back n p ∙ ap (λ b. back-start b p (x n)) e ∙ ap (λ o. back-leg o p (x n)) h)
+      by-leg e None h =
+          lost
+            (eqb-false p start e)
+            (λ d y _. let z : _≡_ {A = ℕ} 0 1 = cc in omega arith)
+            (λ n. follow-back n p ∙ ap (λ b. back-start b p (x n)) e ∙ ap (λ o. back-leg o p (x n)) h)
       by-leg e (Some l) h = by-target l e h (eqb (l .target) p) refl
       by-start : (b : Bool) → eqb p start ≡ b → Back p
       by-start true e = arrives (eqb-true p start e) (λ n. follow-back n p ∙ ap (λ b. back-start b p (x n)) e)
@@ -143,8 +162,8 @@ module _ (m : Meaning) (sound : Sound m) (start : ℕ) (on : start < m .size) (t
             (Says m start p (suc n))
             (sym (is n))
             (record { rest = []; places = ap (λ x. x ∷ []) e; route = alone on refl; ends = sym e; few = omega arith })
-      by (lost is) h = subst (Says m start p (suc n)) (sym (is n)) tt
-      by (comes l usable to is) h =
+      by (lost _ _ is) h = subst (Says m start p (suc n)) (sym (is n)) tt
+      by (comes _ l usable to is) h =
           subst
             (Says m start p (suc n))
             (sym (is n))
@@ -164,8 +183,8 @@ module _ (m : Meaning) (sound : Sound m) (start : ℕ) (on : start < m .size) (t
         → ((v : Trail) → follow m start t n (at t p .parent) ≡ Some v → follow m start t (suc n) (at t p .parent) ≡ Some v)
         → follow m start t (suc (suc n)) p ≡ Some w
       by (arrives _ is) h = is (suc n) ∙ sym (is n) ∙ e
-      by (lost is) h = is (suc n) ∙ sym (is n) ∙ e
-      by (comes l _ _ is) h =
+      by (lost _ _ is) h = is (suc n) ∙ sym (is n) ∙ e
+      by (comes _ l _ _ is) h =
           is (suc n)
           ∙ extended-more
               (l .cost)
@@ -179,3 +198,116 @@ module _ (m : Meaning) (sound : Sound m) (start : ℕ) (on : start < m .size) (t
   follow-raised : (d n p : ℕ) (w : Trail) → follow m start t n p ≡ Some w → follow m start t (d + n) p ≡ Some w
   follow-raised zero n p w e = subst (λ k. follow m start t k p ≡ Some w) (sym (zero-add n)) e
   follow-raised (suc d) n p w e = subst (λ k. follow m start t k p ≡ Some w) (sym (suc-add d n)) (follow-more (d + n) p w (follow-raised d n p w e))
+
+  -- Each place that is first read within i + 1 places adds to those read within i, so there are i + 1 of them at least.
+  abbrev found : Option Trail → ℕ
+  found None = 0
+  found (Some w) = 1
+
+  abbrev found-within : ℕ → ℕ → ℕ
+  found-within n p = found (follow m start t n p)
+
+  found-few : (x : Option Trail) → found x ≤ 1
+  found-few None = omega arith
+  found-few (Some w) = omega arith
+
+  found-more : (n p : ℕ) → found-within n p ≤ found-within (suc n) p
+  found-more n p = by (follow m start t n p) refl
+    where
+      by : (x : Option Trail) → follow m start t n p ≡ x → found x ≤ found-within (suc n) p
+      by None e = omega arith
+      by (Some w) e = let one : found-within (suc n) p ≡ 1 = ap found (follow-more n p w e) in omega arith
+
+  extended-some : (c p : ℕ) (x : Option Trail) (w : Trail) → extended c p x ≡ Some w → (v : Trail) × (x ≡ Some v)
+  extended-some c p None w e = let z : _≡_ {A = ℕ} 0 1 = cc in absurd (omega arith)
+  extended-some c p (Some v) w e = (v, refl)
+
+  extended-none : (c p : ℕ) (x : Option Trail) → extended c p x ≡ None → x ≡ None
+  extended-none c p None e = refl
+  extended-none c p (Some v) e = cc
+
+  -- It was read one place later than its parent.
+  later : (i p : ℕ) (w : Trail) → follow m start t (suc (suc i)) p ≡ Some w → follow m start t (suc i) p ≡ None → (q : ℕ) × (v : Trail) × (q < m .size) × (follow m start t (suc i) q ≡ Some v) × (follow m start t i q ≡ None)
+  later i p w e n = by (way p)
+    where
+      by : Back p → (q : ℕ) × (v : Trail) × (q < m .size) × (follow m start t (suc i) q ≡ Some v) × (follow m start t i q ≡ None)
+      by (arrives _ is) = let same = is i in let z : _≡_ {A = ℕ} 0 1 = cc in absurd (omega arith)
+      by (lost _ _ is) = let same = is (suc i) in let z : _≡_ {A = ℕ} 0 1 = cc in absurd (omega arith)
+      by (comes _ l usable to is) =
+          let some : (v : Trail) × (follow m start t (suc i) (at t p .parent) ≡ Some v) =
+            extended-some (l .cost) p (follow m start t (suc i) (at t p .parent)) w (sym (is (suc i)) ∙ e) in
+          (
+            at t p .parent,
+            some .0,
+            leg-place m sound (at t p .parent) (at t p .leg) l usable,
+            some .1,
+            extended-none (l .cost) p (follow m start t i (at t p .parent)) (sym (is i) ∙ n)
+          )
+
+  grown : (i p : ℕ) (w : Trail) → p < m .size → follow m start t (suc i) p ≡ Some w → follow m start t i p ≡ None → sum-below (found-within i) (m .size) < sum-below (found-within (suc i)) (m .size)
+  grown i p w p-on e n =
+      let none : found-within i p ≡ 0 = ap found n in
+      let one : found-within (suc i) p ≡ 1 = ap found e in
+      sum-strict (found-within i) (found-within (suc i)) (m .size) p (found-more i) p-on (omega arith)
+
+  many : (i p : ℕ) (w : Trail) → p < m .size → follow m start t (suc i) p ≡ Some w → follow m start t i p ≡ None → i < sum-below (found-within (suc i)) (m .size)
+  many zero p w p-on e n = omega (arith, grown zero p w p-on e n)
+  many (suc i) p w p-on e n =
+      let parent : (q : ℕ) × (v : Trail) × (q < m .size) × (follow m start t (suc i) q ≡ Some v) × (follow m start t i q ≡ None) = later i p w e n in
+      omega (arith, grown (suc i) p w p-on e n, many i (parent .0) (parent .1) (parent .2) (parent .3) (parent .4))
+
+  -- So what is read at all is read within as many places as there are.
+  pub follow-enough : (i p : ℕ) (w : Trail) → p < m .size → follow m start t i p ≡ Some w → follow m start t (m .size) p ≡ Some w
+  follow-enough zero p w p-on e = cc
+  follow-enough (suc i) p w p-on e = by (follow m start t i p) refl (λ v. follow-enough i p v p-on)
+    where
+      by : (x : Option Trail) → follow m start t i p ≡ x → ((v : Trail) → follow m start t i p ≡ Some v → follow m start t (m .size) p ≡ Some v) → follow m start t (m .size) p ≡ Some w
+      by None n h =
+          let few : sum-below (found-within (suc i)) (m .size) ≤ m .size = sum-few (found-within (suc i)) (m .size) (λ q. found-few (follow m start t (suc i) q)) in
+          let room : m .size - suc i + suc i ≡ m .size = omega (arith, many i p w p-on e n) in
+          subst (λ k. follow m start t k p ≡ Some w) room (follow-raised (m .size - suc i) (suc i) p w e)
+      by (Some v) n h = h v n ∙ sym (follow-more i p v n) ∙ e
+
+  -- Over a chain something is read, at a cost of at most the label.
+  record Followed (p : ℕ) : Type 0 where
+    within : ℕ
+    trail : Trail
+    is : follow m start t within p ≡ Some trail
+    cheap : trail .cost ≤ at t p .label
+
+  chain-followed : (p : ℕ) → Chain m start t p → Followed p
+  chain-followed p (root e) = by (way p)
+    where
+      by : Back p → Followed p
+      by (arrives _ is) = record { within = 1; trail = record { places = p ∷ []; cost = 0 }; is = is 0; cheap = omega arith }
+      by (lost never _ is) = absurd (never e)
+      by (comes never l usable to is) = absurd (never e)
+  chain-followed p (link {q = q} d parent q-seen leg to step chain) = by (chain-followed q chain) (way p)
+    where
+      named : m .leg (at t p .parent) (at t p .leg) ≡ Some d
+      named = ap (λ x. m .leg x (at t p .leg)) parent ∙ leg
+      by : Followed q → Back p → Followed p
+      by h (arrives _ is) = record { within = 1; trail = record { places = p ∷ []; cost = 0 }; is = is 0; cheap = omega arith }
+      by h (lost _ never is) = absurd (never d named to)
+      by h (comes _ l usable _ is) =
+          let same : l ≡ d = cc (usable, named) in
+          let cost : l .cost ≡ d .cost = ap (λ (x : Leg). x .cost) same in
+          record {
+            within = suc (h .within);
+            trail = record { places = h .trail .places ++ (p ∷ []); cost = h .trail .cost + l .cost };
+            is = is (h .within) ∙ ap (λ x. extended (l .cost) p (follow m start t (h .within) x)) parent ∙ ap (extended (l .cost) p) (h .is);
+            cheap = omega (arith, h .cheap);
+          }
+
+  -- What is read of a place on a chain, within as many places as there are.
+  pub record Readable (p : ℕ) : Type 0 where
+    pub trail : Trail
+    pub is : follow m start t (m .size) p ≡ Some trail
+    pub to : TrailTo m start p (m .size) trail
+    pub cheap : trail .cost ≤ at t p .label
+
+  pub chain-readable : (p : ℕ) → p < m .size → Chain m start t p → Readable p
+  chain-readable p p-on chain =
+      let h : Followed p = chain-followed p chain in
+      let e : follow m start t (m .size) p ≡ Some (h .trail) = follow-enough (h .within) p (h .trail) p-on (h .is) in
+      record { trail = h .trail; is = e; to = subst (Says m start p (m .size)) e (follow-says (m .size) p); cheap = h .cheap }

@@ -7,4 +7,6 @@ pub mod Read
 pub mod Fields
 pub mod Ending
 pub mod Costs
+pub mod Guarantee
+pub mod Run
 pub mod Cases
