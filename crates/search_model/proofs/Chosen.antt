@@ -42,19 +42,19 @@ pub head-open : (key : Record → ℕ) (t : List Record) (p : ℕ) → least (λ
 head-open key t p e = eqb-true (at t p .mark) 1 (least-found (λ q. is-open (at t q)) (by-key key t) (by-key-ranks key t) (length t) p e .passes)
 
 pub head-least :
-  (key : Record → ℕ) (t : List Record) (p : ℕ)
-  → least (λ q. is-open (at t q)) (by-key key t) (length t) ≡ Some p
-  → (q : ℕ)
-  → Open t q
-  → key (at t p) ≤ key (at t q)
+    (key : Record → ℕ) (t : List Record) (p : ℕ)
+    → least (λ q. is-open (at t q)) (by-key key t) (length t) ≡ Some p
+    → (q : ℕ)
+    → Open t q
+    → key (at t p) ≤ key (at t q)
 head-least key t p e q h =
     ltb-false
-      (key (at t q))
-      (key (at t p))
-      (least-found (λ q. is-open (at t q)) (by-key key t) (by-key-ranks key t) (length t) p e .first q (seen-on t q (omega arith)) (eq-eqb (at t q .mark) 1 h))
+    (key (at t q))
+    (key (at t p))
+    (least-found (λ q. is-open (at t q)) (by-key key t) (by-key-ranks key t) (length t) p e .first q (seen-on t q (omega arith)) (eq-eqb (at t q .mark) 1 h))
 
 pub head-missing :
-  (key : Record → ℕ) (t : List Record) → least (λ q. is-open (at t q)) (by-key key t) (length t) ≡ None → (q : ℕ) → Open t q → ⊥
+    (key : Record → ℕ) (t : List Record) → least (λ q. is-open (at t q)) (by-key key t) (length t) ≡ None → (q : ℕ) → Open t q → ⊥
 head-missing key t e q h =
     least-missing (λ q. is-open (at t q)) (by-key key t) (by-key-ranks key t) (length t) e q (seen-on t q (omega arith)) (eq-eqb (at t q .mark) 1 h)
 
@@ -63,33 +63,33 @@ pub near-open : (s : Search) (t : List Record) (p : ℕ) → near-place s t ≡ 
 near-open s t p = by (hope-place t)
   where
     by :
-      (x : Option ℕ)
-      → _≡_ {A = Option ℕ} (elim x [ None ↦ None | Some h ↦ least (λ q. is-near s (f-hat (at t h)) (at t q)) (λ q r. nearer s (at t q) (at t r)) (length t) ]) (Some p)
-      → Open t p
+        (x : Option ℕ)
+        → _≡_ {A = Option ℕ} (elim x [ None ↦ None | Some h ↦ least (λ q. is-near s (f-hat (at t h)) (at t q)) (λ q r. nearer s (at t q) (at t r)) (length t) ]) (Some p)
+        → Open t p
     by None e = cc
     by (Some h) e =
         eqb-true
-          (at t p .mark)
-          1
-          (and-parts
-             (is-open (at t p))
-             (within s (f-hat (at t h)) (at t p))
-             (least-found (λ q. is-near s (f-hat (at t h)) (at t q)) (λ q r. nearer s (at t q) (at t r)) (near-ranks s t) (length t) p e .passes)
-             .0)
+        (at t p .mark)
+        1
+        (and-parts
+        (is-open (at t p))
+        (within s (f-hat (at t h)) (at t p))
+        (least-found (λ q. is-near s (f-hat (at t h)) (at t q)) (λ q r. nearer s (at t q) (at t r)) (near-ranks s t) (length t) p e .passes)
+        .0)
 
 -- What `if-within` takes.
 if-within-some :
-  (s : Search) (m : ℕ) (t : List Record) (x y : Option ℕ) (n : ℕ)
-  → if-within s m t x y ≡ Some n
-  → ((x ≡ Some n) × (s .bound .b * f-hat (at t n) ≤ s .bound .a * m)) ⊎ (y ≡ Some n)
+    (s : Search) (m : ℕ) (t : List Record) (x y : Option ℕ) (n : ℕ)
+    → if-within s m t x y ≡ Some n
+    → ((x ≡ Some n) × (s .bound .b * f-hat (at t n) ≤ s .bound .a * m)) ⊎ (y ≡ Some n)
 if-within-some s m t None y n e = inr e
 if-within-some s m t (Some p) y n e = by (within s m (at t p)) refl e
   where
     by :
-      (b : Bool)
-      → within s m (at t p) ≡ b
-      → _≡_ {A = Option ℕ} (elim b [ true ↦ Some p | false ↦ y ]) (Some n)
-      → ((_≡_ {A = Option ℕ} (Some p) (Some n)) × (s .bound .b * f-hat (at t n) ≤ s .bound .a * m)) ⊎ (y ≡ Some n)
+        (b : Bool)
+        → within s m (at t p) ≡ b
+        → _≡_ {A = Option ℕ} (elim b [ true ↦ Some p | false ↦ y ]) (Some n)
+        → ((_≡_ {A = Option ℕ} (Some p) (Some n)) × (s .bound .b * f-hat (at t n) ≤ s .bound .a * m)) ⊎ (y ≡ Some n)
     by true w h =
         let same : p ≡ n = cc in
         inl (h, subst (λ q. s .bound .b * f-hat (at t q) ≤ s .bound .a * m) same (leb-true (s .bound .b * f-hat (at t p)) (s .bound .a * m) w))
@@ -105,18 +105,18 @@ if-within-none s m t (Some p) y e = by (within s m (at t p)) e
 
 -- The place chosen is open, and near or hope within the mark, or low itself.
 choice-some :
-  (s : Search) (m : ℕ) (t : List Record) (n : ℕ)
-  → choice s m t ≡ Some n
-  → Open t n × ((s .bound .b * f-hat (at t n) ≤ s .bound .a * m) ⊎ (low-place t ≡ Some n))
+    (s : Search) (m : ℕ) (t : List Record) (n : ℕ)
+    → choice s m t ≡ Some n
+    → Open t n × ((s .bound .b * f-hat (at t n) ≤ s .bound .a * m) ⊎ (low-place t ≡ Some n))
 choice-some s m t n e =
     ⊎-elim
-      (λ x. (near-open s t n (x .0), inl (x .1)))
-      (λ y.
-        ⊎-elim
-          (λ x. (head-open f-hat t n (x .0), inl (x .1)))
-          (λ z. (head-open f t n z, inr z))
-          (if-within-some s m t (hope-place t) (low-place t) n y))
-      (if-within-some s m t (near-place s t) (if-within s m t (hope-place t) (low-place t)) n e)
+    (λ x. (near-open s t n (x .0), inl (x .1)))
+    (λ y.
+    ⊎-elim
+    (λ x. (head-open f-hat t n (x .0), inl (x .1)))
+    (λ z. (head-open f t n z, inr z))
+    (if-within-some s m t (hope-place t) (low-place t) n y))
+    (if-within-some s m t (near-place s t) (if-within s m t (hope-place t) (low-place t)) n e)
 
 choice-none : (s : Search) (m : ℕ) (t : List Record) → choice s m t ≡ None → low-place t ≡ None
 choice-none s m t e =
@@ -162,26 +162,31 @@ pub turn-says : (g : Guided) (s : Search) (t : List Record) → TurnSays g s t (
 turn-says g s t = by-mark (low-mark t) refl
   where
     by-goal :
-      (m n : ℕ)
-      → low-mark t ≡ Some m
-      → choice s m t ≡ Some n
-      → (b : Bool)
-      → g .floor .goal n ≡ b
-      → TurnSays g s t (elim b [ true ↦ goal n | false ↦ other n ])
+        (m n : ℕ)
+        → low-mark t ≡ Some m
+        → choice s m t ≡ Some n
+        → (b : Bool)
+        → g .floor .goal n ≡ b
+        → TurnSays g s t (elim b [ true ↦ goal n | false ↦ other n ])
     by-goal m n e h =
         elim [
-          true ↦ λ x. record { mark = m; marked = e; opened = c .0; cheap = cheap; at-goal = x }
-        | false ↦ λ x. record { mark = m; marked = e; opened = c .0; cheap = cheap; at-goal = x } ]
+          | true ↦ λ x. record { mark = m; marked = e; opened = c .0; cheap = cheap; at-goal = x }
+          | false ↦ λ x. record { mark = m; marked = e; opened = c .0; cheap = cheap; at-goal = x }
+        ]
       where
         c : Open t n × ((s .bound .b * f-hat (at t n) ≤ s .bound .a * m) ⊎ (low-place t ≡ Some n))
         c = choice-some s m t n h
+
         l : LowMark t m
         l = low-mark-some t m e
+
         cheap : (s .bound .b * f-hat (at t n) ≤ s .bound .a * m) ⊎ (f (at t n) ≡ m)
         cheap = ⊎-elim (λ x. inl x) (λ x. inr (let same : n ≡ l .place = cc (x, l .is-low) in ap (λ q. f (at t q)) same ∙ l .is-f)) (c .1)
+
     by-choice : (m : ℕ) → low-mark t ≡ Some m → (x : Option ℕ) → choice s m t ≡ x → TurnSays g s t (turn-at g x)
     by-choice m e None h = λ p o. head-missing f t (choice-none s m t h) p o
     by-choice m e (Some n) h = by-goal m n e h (g .floor .goal n) refl
+
     by-mark : (x : Option ℕ) → low-mark t ≡ x → TurnSays g s t (elim x [ None ↦ nothing | Some m ↦ turn-at g (choice s m t) ])
     by-mark None e = low-mark-none t e
     by-mark (Some m) e = by-choice m e (choice s m t) refl
@@ -192,15 +197,16 @@ pub record Chosen (s : Search) (t : List Record) (mark n : ℕ) : Type 0 where
   pub bounded : s .bound .b * f (at t n) ≤ s .bound .a * mark
 
 pub picked-chosen :
-  (g : Guided) (s : Search) (t : List Record) (n : ℕ) (b : Bool) (h : Picked g s t n b)
-  → s .bound .b ≤ s .bound .a
-  → at t n .low ≤ at t n .hope
-  → Chosen s t (h .mark) n
+    (g : Guided) (s : Search) (t : List Record) (n : ℕ) (b : Bool) (h : Picked g s t n b)
+    → s .bound .b ≤ s .bound .a
+    → at t n .low ≤ at t n .hope
+    → Chosen s t (h .mark) n
 picked-chosen g s t n b h ba lh = record { opened = h .opened; bounded = ⊎-elim by-hope by-low (h .cheap) }
   where
     by-hope : s .bound .b * f-hat (at t n) ≤ s .bound .a * h .mark → s .bound .b * f (at t n) ≤ s .bound .a * h .mark
     by-hope c =
         let q : s .bound .b * f (at t n) ≤ s .bound .b * f-hat (at t n) = mul-le-mul-left (s .bound .b) (omega arith) in
         omega arith
+
     by-low : f (at t n) ≡ h .mark → s .bound .b * f (at t n) ≤ s .bound .a * h .mark
     by-low e = rw e (mul-le-mul-right (h .mark) ba)

@@ -19,8 +19,10 @@ most-above value (suc n) j h = ⊎-elim (λ l. earlier (most-above value n j l))
   where
     same : n ≤ j → n ≡ j
     same l = omega arith
+
     earlier : value j ≤ most value n → value j ≤ max (most value n) (value n)
     earlier k = omega arith
+
     here : n ≡ j → value j ≤ max (most value n) (value n)
     here e = let v : value n ≡ value j = ap value e in omega arith
 
@@ -43,9 +45,9 @@ module _ (m : Meaning) (sound : Sound m) where
   pub cost-below : (p k : ℕ) (l : Leg) → m .leg p k ≡ Some l → l .cost ≤ greatest-cost m
   cost-below p k l e =
       let one : leg-cost (m .leg p k) ≤ most (λ k. leg-cost (m .leg p k)) (m .count p) =
-        most-above (λ k. leg-cost (m .leg p k)) (m .count p) k (leg-number p k l e) in
+      most-above (λ k. leg-cost (m .leg p k)) (m .count p) k (leg-number p k l e) in
       let all : most (λ k. leg-cost (m .leg p k)) (m .count p) ≤ greatest-cost m =
-        most-above (λ p. most (λ k. leg-cost (m .leg p k)) (m .count p)) (m .size) p (leg-place p k l e) in
+      most-above (λ p. most (λ k. leg-cost (m .leg p k)) (m .count p)) (m .size) p (leg-place p k l e) in
       let is : leg-cost (m .leg p k) ≡ l .cost = ap leg-cost e in
       omega arith
 
@@ -71,5 +73,5 @@ module _ (m : Meaning) (sound : Sound m) where
   pub most-expansions-below : most-expansions m < greatest-total
   most-expansions-below =
       let h : m .size * (greatest-label m + 1) ≤ 4096 * (limit + 1) =
-        mul-le-mul {n₂ = 4096} {m₂ = limit + 1} (sound .limits .few-places) (omega (arith, greatest-label-below)) in
+      mul-le-mul {n₂ = 4096} {m₂ = limit + 1} (sound .limits .few-places) (omega (arith, greatest-label-below)) in
       omega arith

@@ -36,13 +36,13 @@ pub record Frontier (m : Meaning) (t : List Record) (z total : ℕ) : Type 0 whe
 module _ (g : Guided) (sound : SoundGuided g) (start : ℕ) (t : List Record) (h : Inv g start t (g .floor .size) 0) where
   -- From any seen place, for a route to a place that is not closed at or below the total.
   pub frontier :
-    (p : ℕ) (qs : List ℕ) (c d total : ℕ)
-    → Seen t p
-    → at t p .label ≤ d
-    → d + c ≤ total
-    → Route (g .floor) p qs c
-    → (Closed t (last p qs) → at t (last p qs) .label ≤ total → ⊥)
-    → Frontier (g .floor) t (last p qs) total
+      (p : ℕ) (qs : List ℕ) (c d total : ℕ)
+      → Seen t p
+      → at t p .label ≤ d
+      → d + c ≤ total
+      → Route (g .floor) p qs c
+      → (Closed t (last p qs) → at t (last p qs) .label ≤ total → ⊥)
+      → Frontier (g .floor) t (last p qs) total
   frontier p [] c d total s b enough (alone on free) stop = ⊎-elim (λ o. here o) (λ n. absurd (stop (omega (arith, h .marks p)) (omega arith))) (cases-eq (at t p .mark) 1)
     where
       here : Open t p → Frontier (g .floor) t p total
@@ -53,10 +53,11 @@ module _ (g : Guided) (sound : SoundGuided g) (start : ℕ) (t : List Record) (h
       here : Open t p → Frontier (g .floor) t (last q qs) total
       here o =
           record { place = p; rest = q ∷ qs; cost = c; opened = o; route = onward k l e usable to route cost; ends = refl; cheap = omega arith }
+
       beyond :
-        Closed t p
-        → (Seen t q → at t q .label ≤ d + l .cost → Frontier (g .floor) t (last q qs) total)
-        → Frontier (g .floor) t (last q qs) total
+          Closed t p
+          → (Seen t q → at t q .label ≤ d + l .cost → Frontier (g .floor) t (last q qs) total)
+          → Frontier (g .floor) t (last q qs) total
       beyond cl more =
           let on : p < length t = seen-on t p s in
           let r : Relaxed t p l = h .relaxed p k l cl usable (λ x. absurd (omega (arith, h .sized))) in
@@ -67,16 +68,16 @@ module _ (g : Guided) (sound : SoundGuided g) (start : ℕ) (t : List Record) (h
   pub goal-frontier : (qs : List ℕ) (c : ℕ) → GoalRoute (g .floor) start qs c → Frontier (g .floor) t (last start qs) c
   goal-frontier qs c r =
       frontier
-        start
-        qs
-        c
-        0
-        c
-        (h .start-seen)
-        (omega (arith, h .start-label))
-        (omega arith)
-        (r .0)
-        (λ cl _. both-ways (g .floor .goal (last start qs)) (h .no-goals (last start qs) cl) (r .1))
+      start
+      qs
+      c
+      0
+      c
+      (h .start-seen)
+      (omega (arith, h .start-label))
+      (omega arith)
+      (r .0)
+      (λ cl _. both-ways (g .floor .goal (last start qs)) (h .no-goals (last start qs) cl) (r .1))
 
   -- With nothing open no goal can be reached.
   pub barren-no-route : ((p : ℕ) → Open t p → ⊥) → (qs : List ℕ) (c : ℕ) → GoalRoute (g .floor) start qs c → ⊥
@@ -88,15 +89,15 @@ module _ (g : Guided) (sound : SoundGuided g) (start : ℕ) (t : List Record) (h
       let x : Frontier (g .floor) t (last start qs) c = goal-frontier qs c r in
       let kept : at t (x .place) .low ≡ g .floor .low (x .place) = h .estimates (x .place) (omega (arith, x .opened)) .low in
       let rest : g .floor .low (x .place) ≤ x .cost =
-        sound .floor .admissible (x .place) (x .rest) (x .cost) (x .route) (ap (g .floor .goal) (x .ends) ∙ r .1) in
+      sound .floor .admissible (x .place) (x .rest) (x .cost) (x .route) (ap (g .floor .goal) (x .ends) ∙ r .1) in
       omega (arith, low-mark-some t mark e .least-f (x .place) (x .opened), x .cheap)
 
   -- A chosen place has its label within the bound, whatever way it was chosen.
   pub chosen-bounded :
-    (s : Search) (mark n : ℕ)
-    → Chosen s t mark n
-    → ((qs : List ℕ) (c : ℕ) → GoalRoute (g .floor) start qs c → mark ≤ c)
-    → Bounded (g .floor) start (s .bound) (at t n .label)
+      (s : Search) (mark n : ℕ)
+      → Chosen s t mark n
+      → ((qs : List ℕ) (c : ℕ) → GoalRoute (g .floor) start qs c → mark ≤ c)
+      → Bounded (g .floor) start (s .bound) (at t n .label)
   chosen-bounded s mark n ch below qs c r =
       let one : s .bound .b * at t n .label ≤ s .bound .b * f (at t n) = mul-le-mul-left (s .bound .b) (omega arith) in
       let two : s .bound .a * mark ≤ s .bound .a * c = mul-le-mul-left (s .bound .a) (below qs c r) in

@@ -14,8 +14,9 @@ use Rattle.search_model.specs.declared.records.Record.{Record}
 use Rattle.search_model.specs.declared.search.Search.{Search}
 use Rattle.search_model.specs.Records.{at, Seen}
 use Rattle.search_model.specs.Advance.{Answer, Barren, Settled, More, Outcome, going}
+use Rattle.search_model.specs.Begin.{rebounded}
 use Rattle.search_model.specs.Read.{Trail, follow, read-route}
-use Rattle.search_model.specs.Costs.{GoalRoute}
+use Rattle.search_model.specs.Costs.{GoalRoute, ValidBound, most-expansions}
 use Rattle.search_model.specs.Guarantee.{SettledLaw, AnswerLaw, AdvanceLaw, RouteLaw, ReadLaw}
 use Rattle.search_model.specs.Run.{State, running, settled, barren, left-by, Event, advanced, bound-set, route-read, Run, done, advance, rebound-running, rebound-settled, read, Guaranteed, Guarantee}
 use Rattle.search_model.proofs.Table.{seen-on}
@@ -35,32 +36,28 @@ pub record Standing (g : Guided) (start : ℕ) (bound : Bound) (total : ℕ) (s 
 
 module _ (g : Guided) (sound : SoundGuided g) where
   -- A seen place can be read.
-  readable :
-    (s : Search) (t : List Record) (n : ℕ)
-    → (h : Reached g s t)
-    → Seen t n
-    → Readable (g .floor) (sound .floor) (s .start) (subst (λ x. s .start < x) (h .invariant .sized) (seen-on t (s .start) (h .invariant .start-seen))) t n
+  readable : (s : Search) (t : List Record) (n : ℕ) → Reached g s t → Seen t n → Readable (g .floor) (s .start) t n
   readable s t n h seen =
       chain-readable
-        (g .floor)
-        (sound .floor)
-        (s .start)
-        (subst (λ x. s .start < x) (h .invariant .sized) (seen-on t (s .start) (h .invariant .start-seen)))
-        t
-        n
-        (subst (λ x. n < x) (h .invariant .sized) (seen-on t n seen))
-        (h .invariant .chains n seen)
+      (g .floor)
+      (sound .floor)
+      (s .start)
+      (subst (λ x. s .start < x) (h .invariant .sized) (seen-on t (s .start) (h .invariant .start-seen)))
+      t
+      n
+      (subst (λ x. n < x) (h .invariant .sized) (seen-on t n seen))
+      (h .invariant .chains n seen)
 
   -- A goal that is picked is settled.
   settled-law : (s : Search) (t : List Record) (n : ℕ) → Reached g s t → Picked g s t n true → SettledLaw (g .floor) (s .start) (s .bound) t n
   settled-law s t n h p =
       let seen : Seen t n = omega (arith, p .opened) in
-      let r = readable s t n h seen in
+      let r : Readable (g .floor) (s .start) t n = readable s t n h seen in
       record {
         is-goal = p .at-goal;
         seen = seen;
         bounded =
-          chosen-bounded
+            chosen-bounded
             g
             sound
             (s .start)
@@ -82,20 +79,131 @@ module _ (g : Guided) (sound : SoundGuided g) where
   -- What is read of a settled goal.
   read-law : (s : Search) (t : List Record) (n : ℕ) → Reached g s t → SettledLaw (g .floor) (s .start) (s .bound) t n → ReadLaw (g .floor) (s .start) (s .bound) n (read-route (g .floor) s t n)
   read-law s t n h law =
-      let r = readable s t n h (law .seen) in
+      let r : Readable (g .floor) (s .start) t n = readable s t n h (law .seen) in
       let is : read-route (g .floor) s t n ≡ Some (r .trail) = ap (λ x. follow (g .floor) (s .start) t x n) (h .size) ∙ r .is in
       subst
-        (ReadLaw (g .floor) (s .start) (s .bound) n)
+      (ReadLaw (g .floor) (s .start) (s .bound) n)
+      (sym is)
+      (record {
+        rest = r .to .rest;
+        places = r .to .places;
+        route = r .to .route;
+        ends = r .to .ends;
+        is-goal = law .is-goal;
+        few = r .to .few;
+        bounded =
+            λ qs c to.
+            let below : s .bound .b * r .trail .cost ≤ s .bound .b * at t n .label = mul-le-mul-left (s .bound .b) (r .cheap) in
+            omega (arith, law .bounded qs c to);
+      })
+
+-- What holds of a state: a reached one, and of a settled one its law.
+abbrev Good : Guided → ℕ → Bound → ℕ → State → Type 0
+Good g start bound total (running s t) = Standing g start bound total s t
+Good g start bound total (settled n s t) = Standing g start bound total s t × SettledLaw (g .floor) start bound t n
+Good g start bound total barren = Unit {0}
+
+module _ (g : Guided) (sound : SoundGuided g) (start : ℕ) where
+  -- The law at the start and the bound of a standing search.
+  standing-law :
+      {bound : Bound} {total : ℕ} {s : Search} {t : List Record}
+      → Standing g start bound total s t
+      → (Law : ℕ → Bound → Type 0)
+      → Law (s .start) (s .bound)
+      → Law start bound
+  standing-law {bound} {s = s} st Law law = subst (λ b. Law start b) (st .bound-is) (subst (λ x. Law x (s .bound)) (st .start-is) law)
+
+  standing-back :
+      {bound : Bound} {total : ℕ} {s : Search} {t : List Record}
+      → Standing g start bound total s t
+      → (Law : ℕ → Bound → Type 0)
+      → Law start bound
+      → Law (s .start) (s .bound)
+  standing-back {bound} {s = s} st Law law = subst (λ b. Law (s .start) b) (sym (st .bound-is)) (subst (λ x. Law x bound) (sym (st .start-is)) law)
+
+  rebound-good :
+      {old : Bound} {total : ℕ} (s : Search) (t : List Record) (bound : Bound)
+      → Standing g start old total s t
+      → ValidBound bound
+      → Standing g start bound total (rebounded bound s) t
+  rebound-good s t bound st valid =
+      record { reached = rebound-reaches g sound s t bound valid (st .reached); start-is = st .start-is; bound-is = refl; total-is = st .total-is }
+
+  after-advance :
+      (bound : Bound) (total budget : ℕ) (s : Search) (t : List Record)
+      → Standing g start bound total s t
+      → Ended g (ReachedFrom g s) 0 budget (going g budget s t)
+      → Standing g start bound (going g budget s t .search-after .total) (going g budget s t .search-after) (going g budget s t .records)
+  after-advance bound total budget s t st e =
+      record {
+        reached = e .holds .reached;
+        start-is = e .holds .start ∙ st .start-is;
+        bound-is = e .holds .bound ∙ st .bound-is;
+        total-is = refl;
+      }
+
+  left-good : (bound : Bound) (total : ℕ) (s : Search) (t : List Record) (a : Answer) → Standing g start bound total s t → AnswerLaw (g .floor) start bound t a → Good g start bound total (left-by a s t)
+  left-good bound total s t Barren st law = tt
+  left-good bound total s t (Settled n) st law = (st, law)
+  left-good bound total s t More st law = st
+
+  -- An advance of a standing search.
+  pub advance-law : (bound : Bound) (total budget : ℕ) (s : Search) (t : List Record) → Standing g start bound total s t → AdvanceLaw (g .floor) start bound total budget (going g budget s t)
+  advance-law bound total budget s t st =
+      let e : Ended g (ReachedFrom g s) 0 budget (going g budget s t) = advance-reaches g sound budget s t (st .reached) in
+      let after : Standing g start bound (going g budget s t .search-after .total) (going g budget s t .search-after) (going g budget s t .records) =
+      after-advance bound total budget s t st e in
+      let few : going g budget s t .search-after .total ≤ most-expansions (g .floor) = omega (arith, e .holds .reached .spent) in
+      record {
+        answered =
+            standing-law
+            after
+            (λ x b. AnswerLaw (g .floor) x b (going g budget s t .records) (going g budget s t .answer))
+            (answer-law g sound (going g budget s t .search-after) (going g budget s t .records) (going g budget s t .answer) (e .holds .reached) (e .says));
+        marked =
+            λ mark is.
+            standing-law
+            after
+            (λ x b. (qs : List ℕ) (c : ℕ) → GoalRoute (g .floor) x qs c → mark ≤ c)
+            (low-mark-below g sound (going g budget s t .search-after .start) (going g budget s t .records) (e .holds .reached .invariant) mark (sym (e .marked) ∙ is));
+        spent = e .spent;
+        affordable = e .affordable;
+        exact = omega (arith, e .holds .total, st .total-is);
+        few = few;
+        uncapped = omega (arith, most-expansions-below (g .floor) (sound .floor));
+      }
+
+  run-guaranteed : {z y : State} {es : List Event} → Run g z es y → (bound : Bound) (total : ℕ) → Good g start bound total z → Guaranteed (g .floor) start bound total es
+  run-guaranteed done bound total h = tt
+  run-guaranteed (advance budget s t o is run) bound total h =
+      let law : AdvanceLaw (g .floor) start bound total budget (going g budget s t) = advance-law bound total budget s t h in
+      let after : Standing g start bound (going g budget s t .search-after .total) (going g budget s t .search-after) (going g budget s t .records) =
+      after-advance bound total budget s t h (advance-reaches g sound budget s t (h .reached)) in
+      let good : Good g start bound (going g budget s t .search-after .total) (left-by (going g budget s t .answer) (going g budget s t .search-after) (going g budget s t .records)) =
+      left-good bound (going g budget s t .search-after .total) (going g budget s t .search-after) (going g budget s t .records) (going g budget s t .answer) after (law .answered) in (
+        subst (AdvanceLaw (g .floor) start bound total budget) (sym is) law,
+        run-guaranteed run bound (o .search-after .total) (subst (λ (o : Outcome). Good g start bound (o .search-after .total) (left-by (o .answer) (o .search-after) (o .records))) (sym is) good),
+      )
+  run-guaranteed (rebound-running b s t valid run) bound total h = run-guaranteed run b total (rebound-good s t b h valid)
+  run-guaranteed (rebound-settled b n s t valid run) bound total h = run-guaranteed run b total (rebound-good s t b (h .0) valid)
+  run-guaranteed (read n s t r is run) bound total h = (
+    subst
+        (ReadLaw (g .floor) start bound n)
         (sym is)
-        (record {
-           rest = r .to .rest;
-           places = r .to .places;
-           route = r .to .route;
-           ends = r .to .ends;
-           is-goal = law .is-goal;
-           few = r .to .few;
-           bounded =
-             λ qs c to.
-               let below : s .bound .b * r .trail .cost ≤ s .bound .b * at t n .label = mul-le-mul-left (s .bound .b) (r .cheap) in
-               omega (arith, law .bounded qs c to);
-         })
+        (standing-law
+        (h .0)
+        (λ x b. ReadLaw (g .floor) x b n (read-route (g .floor) s t n))
+        (read-law g sound s t n (h .0 .reached) (standing-back (h .0) (λ x b. SettledLaw (g .floor) x b t n) (h .1)))),
+    run-guaranteed run bound total h,
+  )
+
+pub guarantee : Guarantee
+guarantee g start bound es z sound on valid run =
+    run-guaranteed
+    g
+    sound
+    start
+    run
+    bound
+    0
+    (record { reached = begin-reaches g sound start on bound valid; start-is = refl; bound-is = refl; total-is = refl })

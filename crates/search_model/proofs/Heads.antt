@@ -25,24 +25,24 @@ Before x p y q = (x < y) ⊎ ((x ≡ y) × (p ≤ q))
 
 -- The open place whose key comes before that of every open place is the head.
 head-is :
-  (key : Record → ℕ) (t : List Record) (p : ℕ)
-  → Open t p
-  → ((q : ℕ) → Open t q → Before (key (at t p)) p (key (at t q)) q)
-  → least (λ q. is-open (at t q)) (by-key key t) (length t) ≡ Some p
+    (key : Record → ℕ) (t : List Record) (p : ℕ)
+    → Open t p
+    → ((q : ℕ) → Open t q → Before (key (at t p)) p (key (at t q)) q)
+    → least (λ q. is-open (at t q)) (by-key key t) (length t) ≡ Some p
 head-is key t p o h =
     least-is
-      (λ q. is-open (at t q))
-      (by-key key t)
-      (by-key-ranks key t)
-      (length t)
-      p
-      (seen-on t p (omega arith))
-      (eq-eqb (at t p .mark) 1 o)
-      (λ q l e.
-        ⊎-elim
-          (λ x. inl (lt-ltb (key (at t p)) (key (at t q)) x))
-          (λ x. inr (le-ltb (key (at t q)) (key (at t p)) (omega (arith, x .0)), x .1))
-          (h q (eqb-true (at t q .mark) 1 e)))
+    (λ q. is-open (at t q))
+    (by-key key t)
+    (by-key-ranks key t)
+    (length t)
+    p
+    (seen-on t p (omega arith))
+    (eq-eqb (at t p .mark) 1 o)
+    (λ q l e.
+    ⊎-elim
+    (λ x. inl (lt-ltb (key (at t p)) (key (at t q)) x))
+    (λ x. inr (le-ltb (key (at t q)) (key (at t p)) (omega (arith, x .0)), x .1))
+    (h q (eqb-true (at t q .mark) 1 e)))
 
 head-none : (key : Record → ℕ) (t : List Record) → ((q : ℕ) → Open t q → ⊥) → least (λ q. is-open (at t q)) (by-key key t) (length t) ≡ None
 head-none key t h = least-none (λ q. is-open (at t q)) (by-key key t) (by-key-ranks key t) (length t) (λ q l e. h q (eqb-true (at t q .mark) 1 e))
@@ -86,28 +86,29 @@ near-test s t h p e =
     }
 
 pub near-is :
-  (s : Search) (t : List Record) (h p : ℕ)
-  → hope-place t ≡ Some h
-  → Near s t (f-hat (at t h)) p
-  → ((q : ℕ) → Near s t (f-hat (at t h)) q → NearBefore s t p q)
-  → near-place s t ≡ Some p
+    (s : Search) (t : List Record) (h p : ℕ)
+    → hope-place t ≡ Some h
+    → Near s t (f-hat (at t h)) p
+    → ((q : ℕ) → Near s t (f-hat (at t h)) q → NearBefore s t p q)
+    → near-place s t ≡ Some p
 near-is s t h p e n first = rw (e, near-place) found
   where
     ordered : (q : ℕ) → NearBefore s t p q → (nearer s (at t p) (at t q) ≡ true) ⊎ ((nearer s (at t q) (at t p) ≡ false) × (p ≤ q))
     ordered q (inl x) = inl (grind (arith, tells))
     ordered q (inr (e, inl x)) = inl (grind (arith, tells))
     ordered q (inr (e, inr x)) = inr (grind (arith, tells), x .1)
+
     found : least (λ q. is-near s (f-hat (at t h)) (at t q)) (λ q r. nearer s (at t q) (at t r)) (length t) ≡ Some p
     found =
         least-is
-          (λ q. is-near s (f-hat (at t h)) (at t q))
-          (λ q r. nearer s (at t q) (at t r))
-          (near-ranks s t)
-          (length t)
-          p
-          (seen-on t p (omega arith))
-          (and-from (is-open (at t p)) (within s (f-hat (at t h)) (at t p)) (eq-eqb (at t p .mark) 1 (n .opened)) (le-leb (s .bound .b * f-hat (at t p)) (s .bound .a * f-hat (at t h)) (n .close)))
-          (λ q l x. ordered q (first q (near-test s t (f-hat (at t h)) q x)))
+        (λ q. is-near s (f-hat (at t h)) (at t q))
+        (λ q r. nearer s (at t q) (at t r))
+        (near-ranks s t)
+        (length t)
+        p
+        (seen-on t p (omega arith))
+        (and-from (is-open (at t p)) (within s (f-hat (at t h)) (at t p)) (eq-eqb (at t p .mark) 1 (n .opened)) (le-leb (s .bound .b * f-hat (at t p)) (s .bound .a * f-hat (at t h)) (n .close)))
+        (λ q l x. ordered q (first q (near-test s t (f-hat (at t h)) q x)))
 
 -- f̂ of near is at least f̂ of hope.
 pub hope-before-near : (s : Search) (t : List Record) (h p : ℕ) → hope-place t ≡ Some h → near-place s t ≡ Some p → f-hat (at t h) ≤ f-hat (at t p)

@@ -44,14 +44,14 @@ seen-count-below t =
 pub data Chain (m : Meaning) (start : ℕ) (t : List Record) : ℕ → Type 0 where
   root : {p : ℕ} → p ≡ start → Chain m start t p
   link :
-    {p q : ℕ} (l : Leg)
-    → at t p .parent ≡ q
-    → Seen t q
-    → m .leg q (at t p .leg) ≡ Some l
-    → l .target ≡ p
-    → at t q .label + l .cost ≤ at t p .label
-    → Chain m start t q
-    → Chain m start t p
+      {p q : ℕ} (l : Leg)
+      → at t p .parent ≡ q
+      → Seen t q
+      → m .leg q (at t p .leg) ≡ Some l
+      → l .target ≡ p
+      → at t q .label + l .cost ≤ at t p .label
+      → Chain m start t q
+      → Chain m start t p
 
 -- The target of a usable leg from p has a label of at most p's and the leg's cost.
 pub record Relaxed (t : List Record) (p : ℕ) (l : Leg) : Type 0 where
@@ -90,10 +90,10 @@ module _ (g : Guided) (sound : SoundGuided g) (start : ℕ) where
 
   -- One more leg taken.
   pub relaxed-more :
-    (t : List Record) (n k : ℕ)
-    → AllRelaxed (g .floor) t n k
-    → ((l : Leg) → g .floor .leg n k ≡ Some l → Relaxed t n l)
-    → AllRelaxed (g .floor) t n (suc k)
+      (t : List Record) (n k : ℕ)
+      → AllRelaxed (g .floor) t n k
+      → ((l : Leg) → g .floor .leg n k ≡ Some l → Relaxed t n l)
+      → AllRelaxed (g .floor) t n (suc k)
   relaxed-more t n k h now p j l c e guard = ⊎-elim at-n (λ ne. h p j l c e (λ x. absurd (ne x))) (cases-eq p n)
     where
       at-n : p ≡ n → Relaxed t p l
@@ -126,58 +126,59 @@ module _ (g : Guided) (sound : SoundGuided g) (start : ℕ) where
 
   -- Where a place is unseen there is room for one more, so the label offered to it is at most the greatest.
   pub fresh-room :
-    (t : List Record) (n k : ℕ) (l : Leg)
-    → Inv g start t n k
-    → Seen t n
-    → g .floor .leg n k ≡ Some l
-    → at t (l .target) .mark ≡ 0
-    → (offered-label t n l + greatest-cost (g .floor) ≤ greatest-cost (g .floor) * suc (seen-count t)) × (suc (seen-count t) ≤ g .floor .size)
+      (t : List Record) (n k : ℕ) (l : Leg)
+      → Inv g start t n k
+      → Seen t n
+      → g .floor .leg n k ≡ Some l
+      → at t (l .target) .mark ≡ 0
+      → (offered-label t n l + greatest-cost (g .floor) ≤ greatest-cost (g .floor) * suc (seen-count t)) × (suc (seen-count t) ≤ g .floor .size)
   unfolding seen-count seen-one
   fresh-room t n k l h s e z =
       let on : l .target < length t = subst (λ x. l .target < x) (sym (h .sized)) (sound .floor .limits .targets n k l e) in
       let c : Changed t (l .target) (given-record g t n k l) (set t (l .target) (given-record g t n k l)) = changed t (l .target) (given-record g t n k l) on in
       let more : seen-count (set t (l .target) (given-record g t n k l)) + min (at t (l .target) .mark) 1 ≡ seen-count t + 1 = c .sums seen-one in
       let few : seen-count (set t (l .target) (given-record g t n k l)) ≤ length (set t (l .target) (given-record g t n k l)) =
-        seen-count-below (set t (l .target) (given-record g t n k l)) in
-      (
+      seen-count-below (set t (l .target) (given-record g t n k l)) in (
         omega (arith, h .labels n s, cost-below (g .floor) (sound .floor) n k l e, mul-suc (greatest-cost (g .floor)) (seen-count t)),
-        omega (arith, c .sized, h .sized)
+        omega (arith, c .sized, h .sized),
       )
 
   pub fresh-small :
-    (t : List Record) (n k : ℕ) (l : Leg)
-    → Inv g start t n k
-    → Seen t n
-    → g .floor .leg n k ≡ Some l
-    → at t (l .target) .mark ≡ 0
-    → offered-label t n l ≤ greatest-label (g .floor)
+      (t : List Record) (n k : ℕ) (l : Leg)
+      → Inv g start t n k
+      → Seen t n
+      → g .floor .leg n k ≡ Some l
+      → at t (l .target) .mark ≡ 0
+      → offered-label t n l ≤ greatest-label (g .floor)
   fresh-small t n k l h s e z =
       let room : (offered-label t n l + greatest-cost (g .floor) ≤ greatest-cost (g .floor) * suc (seen-count t)) × (suc (seen-count t) ≤ g .floor .size) =
-        fresh-room t n k l h s e z in
+      fresh-room t n k l h s e z in
       let more : greatest-cost (g .floor) * suc (seen-count t) ≤ greatest-cost (g .floor) * g .floor .size =
-        mul-le-mul-left (greatest-cost (g .floor)) (room .1) in
+      mul-le-mul-left (greatest-cost (g .floor)) (room .1) in
       omega (arith, room .0, greatest-label-and (g .floor) (sound .floor))
 
   -- A label that is not taken: its target has one that is as low, since no label of the search is above the limit.
   pub passed-step :
-    (t : List Record) (n k : ℕ) (l : Leg)
-    → g .floor .leg n k ≡ Some l
-    → takes (offered-label t n l) (at t (l .target)) ≡ false
-    → Seen t n
-    → Inv g start t n k
-    → Inv g start t n (suc k)
+      (t : List Record) (n k : ℕ) (l : Leg)
+      → g .floor .leg n k ≡ Some l
+      → takes (offered-label t n l) (at t (l .target)) ≡ false
+      → Seen t n
+      → Inv g start t n k
+      → Inv g start t n (suc k)
   passed-step t n k l e f s h = with-relaxed t n k n (suc k) h (relaxed-more t n k (h .relaxed) (λ l′ x. subst (Relaxed t n) (same l′ x) here))
     where
       same : (l′ : Leg) → g .floor .leg n k ≡ Some l′ → l ≡ l′
       same l′ x = cc
+
       above : limit < offered-label t n l → Relaxed t n l
       above b =
           ⊎-elim
-            (λ z. absurd (omega (arith, fresh-small t n k l h s e z, greatest-label-below (g .floor) (sound .floor))))
-            (λ nz.
-              let seen : Seen t (l .target) = omega arith in
-              record { seen = seen; label = omega (arith, label-below t n k (l .target) h seen, greatest-label-below (g .floor) (sound .floor)) })
-            (cases-eq (at t (l .target) .mark) 0)
+          (λ z. absurd (omega (arith, fresh-small t n k l h s e z, greatest-label-below (g .floor) (sound .floor))))
+          (λ nz.
+          let seen : Seen t (l .target) = omega arith in
+          record { seen = seen; label = omega (arith, label-below t n k (l .target) h seen, greatest-label-below (g .floor) (sound .floor)) })
+          (cases-eq (at t (l .target) .mark) 0)
+
       here : Relaxed t n l
       here = ⊎-elim above (λ x. record { seen = x .0; label = x .1 }) (takes-false (offered-label t n l) (at t (l .target)) f)
 
@@ -185,10 +186,10 @@ module _ (g : Guided) (sound : SoundGuided g) (start : ℕ) where
   pub finished : (t : List Record) (n : ℕ) → Inv g start t n (g .floor .count n) → Inv g start t (g .floor .size) 0
   finished t n h =
       with-relaxed
-        t
-        n
-        (g .floor .count n)
-        (g .floor .size)
-        0
-        h
-        (λ p j l c e guard. h .relaxed p j l c e (λ x. subst (λ y. j < g .floor .count y) x (leg-number (g .floor) (sound .floor) p j l e)))
+      t
+      n
+      (g .floor .count n)
+      (g .floor .size)
+      0
+      h
+      (λ p j l c e guard. h .relaxed p j l c e (λ x. subst (λ y. j < g .floor .count y) x (leg-number (g .floor) (sound .floor) p j l e)))

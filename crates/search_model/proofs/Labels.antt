@@ -21,10 +21,9 @@ use Rattle.search_model.proofs.Table.{Changed, changed, seen-on}
 -- A label that is taken is within the limit, and below the old one if there is one.
 pub takes-true : (v : ℕ) (r : Record) → takes v r ≡ true → (v ≤ limit) × ((r .mark ≡ 0) ⊎ (v < r .label))
 takes-true v r e =
-    let both : (leb v limit ≡ true) × ((is-unseen r || ltb v (r .label)) ≡ true) = and-parts (leb v limit) (is-unseen r || ltb v (r .label)) e in
-    (
+    let both : (leb v limit ≡ true) × ((is-unseen r || ltb v (r .label)) ≡ true) = and-parts (leb v limit) (is-unseen r || ltb v (r .label)) e in (
       leb-true v limit (both .0),
-      ⊎-elim (λ x. inl (eqb-true (r .mark) 0 x)) (λ x. inr (ltb-true v (r .label) x)) (or-cases (is-unseen r) (ltb v (r .label)) (both .1))
+      ⊎-elim (λ x. inl (eqb-true (r .mark) 0 x)) (λ x. inr (ltb-true v (r .label) x)) (or-cases (is-unseen r) (ltb v (r .label)) (both .1)),
     )
 
 -- A label that is not taken is above the limit, or the place has one that is as low.
@@ -69,15 +68,15 @@ pub record Given (g : Guided) (t : List Record) (n k : ℕ) (l : Leg) : Type 0 w
   pub reason : (at t (l .target) .mark ≡ 0) ⊎ (offered-label t n l < at t (l .target) .label)
 
 pub given-label :
-  (g : Guided) (t : List Record) (n k : ℕ) (l : Leg)
-  → SoundGuided g
-  → length t ≡ g .floor .size
-  → g .floor .leg n k ≡ Some l
-  → takes (offered-label t n l) (at t (l .target)) ≡ true
-  → Given g t n k l
+    (g : Guided) (t : List Record) (n k : ℕ) (l : Leg)
+    → SoundGuided g
+    → length t ≡ g .floor .size
+    → g .floor .leg n k ≡ Some l
+    → takes (offered-label t n l) (at t (l .target)) ≡ true
+    → Given g t n k l
 given-label g t n k l sound sized e h =
     let taken : (offered-label t n l ≤ limit) × ((at t (l .target) .mark ≡ 0) ⊎ (offered-label t n l < at t (l .target) .label)) =
-      takes-true (offered-label t n l) (at t (l .target)) h in
+    takes-true (offered-label t n l) (at t (l .target)) h in
     let on : l .target < length t = subst (λ x. l .target < x) (sym sized) (sound .floor .limits .targets n k l e) in
     record { change = changed t (l .target) (given-record g t n k l) on; small = taken .0; reason = taken .1 }
 

@@ -54,9 +54,9 @@ module _ (test : ℕ → Bool) (before : ℕ → ℕ → Bool) (o : Ranks before
       beaten : (q : ℕ) → q < n → test q ≡ true → before n q ≡ true
       beaten q l t =
           ⊎-elim
-            (λ x. x)
-            (λ x. absurd (both-ways (before n p) (o .chain n q p x (h .first q l t)) (and-parts (test n) (before n p) e .1)))
-            (cases-bool (before n q))
+          (λ x. x)
+          (λ x. absurd (both-ways (before n p) (o .chain n q p x (h .first q l t)) (and-parts (test n) (before n p) e .1)))
+          (cases-bool (before n q))
 
   step : (n : ℕ) (x : Option ℕ) → Says test before n x → Says test before (suc n) (better test before n x)
   step n None h = by (test n) refl
@@ -83,21 +83,21 @@ module _ (test : ℕ → Bool) (before : ℕ → ℕ → Bool) (o : Ranks before
   least-unique : (n p q : ℕ) → Least test before n p → Least test before n q → p ≡ q
   least-unique n p q h k =
       ⊎-elim
-        (λ e. e)
-        (λ x.
-          ⊎-elim
-            (λ l. absurd (both-ways (before q p) (h .first q (k .below) (k .passes)) (k .lowest p l (h .passes))))
-            (λ l. absurd (both-ways (before p q) (k .first p (h .below) (h .passes)) (h .lowest q l (k .passes))))
-            x)
-        (cases-order p q)
+      (λ e. e)
+      (λ x.
+      ⊎-elim
+      (λ l. absurd (both-ways (before q p) (h .first q (k .below) (k .passes)) (k .lowest p l (h .passes))))
+      (λ l. absurd (both-ways (before p q) (k .first p (h .below) (h .passes)) (h .lowest q l (k .passes))))
+      x)
+      (cases-order p q)
 
   -- The place that every other one that passes comes after, or ties with at a higher number.
   pub least-is :
-    (n p : ℕ)
-    → p < n
-    → test p ≡ true
-    → ((q : ℕ) → q < n → test q ≡ true → (before p q ≡ true) ⊎ ((before q p ≡ false) × (p ≤ q)))
-    → least test before n ≡ Some p
+      (n p : ℕ)
+      → p < n
+      → test p ≡ true
+      → ((q : ℕ) → q < n → test q ≡ true → (before p q ≡ true) ⊎ ((before q p ≡ false) × (p ≤ q)))
+      → least test before n ≡ Some p
   least-is n p l t h = by (least test before n) refl (least-says n)
     where
       mine : Least test before n p
@@ -108,6 +108,7 @@ module _ (test : ℕ → Bool) (before : ℕ → ℕ → Bool) (o : Ranks before
             first = λ q b u. ⊎-elim (λ x. o .one-way p q x) (λ x. x .0) (h q b u);
             lowest = λ q b u. ⊎-elim (λ x. x) (λ x. absurd (omega arith)) (h q (omega arith) u);
           }
+
       by : (x : Option ℕ) → least test before n ≡ x → Says test before n x → least test before n ≡ Some p
       by None e s = absurd (s p l t)
       by (Some q) e s = e ∙ ap Some (least-unique n q p s mine)

@@ -24,11 +24,11 @@ limits-changed {t} {u} c m l h =
     record {
       marks = λ p. ⊎-elim (λ x. subst (λ (y : Record). y .mark ≤ 2) (sym (x .1)) m) (λ x. subst (λ (y : Record). y .mark ≤ 2) (sym (x .1)) (h .marks p)) (changed-at c p);
       seen =
-        λ p s.
+          λ p s.
           ⊎-elim
-            (λ x. subst Limited (sym (x .1)) l)
-            (λ x. subst Limited (sym (x .1)) (h .seen p (subst (λ (y : Record). 1 ≤ y .mark) (x .1) s)))
-            (changed-at c p);
+          (λ x. subst Limited (sym (x .1)) l)
+          (λ x. subst Limited (sym (x .1)) (h .seen p (subst (λ (y : Record). 1 ≤ y .mark) (x .1) s)))
+          (changed-at c p);
     }
 
 module _ (g : Guided) (sound : SoundGuided g) where
@@ -46,7 +46,7 @@ module _ (g : Guided) (sound : SoundGuided g) where
           let low : g .floor .low (l .target) ≤ limit = sound .floor .limits .lows (l .target) in
           let hope : g .hope (l .target) ≤ limit = sound .hopes (l .target) in
           let r : Limited (given-record g t n k l) =
-            record { label = h .small; hope = omega arith; steps = sound .step-counts (l .target); low = omega arith } in
+          record { label = h .small; hope = omega arith; steps = sound .step-counts (l .target); low = omega arith } in
           record { sized = h .change .sized ∙ p .sized; limits = limits-changed (h .change) (omega arith) r (p .limits) }
 
   expansion-fine : KeptByExpansion g (λ k s t. Fine t)
@@ -54,12 +54,13 @@ module _ (g : Guided) (sound : SoundGuided g) where
     where
       r : Limited (at t n)
       r = p .limits .seen n (omega (arith, h .opened))
+
       shut : Fine (set t n (closed (at t n)))
       shut =
           record {
             sized = closing t n (h .opened) .sized ∙ p .sized;
             limits =
-              limits-changed
+                limits-changed
                 (closing t n (h .opened))
                 (omega arith)
                 (record { label = r .label; hope = r .hope; steps = r .steps; low = r .low })
@@ -69,5 +70,5 @@ module _ (g : Guided) (sound : SoundGuided g) where
 pub limits-kept : LimitsKept
 limits-kept g budget s t sound sized h =
     let e : Ended g (λ k s t. Fine g sound t) 0 budget (going g budget s t) =
-      going-rule g (λ k s t. Fine g sound t) (expansion-fine g sound) budget 0 s t (record { sized = sized; limits = h }) in
+    going-rule g (λ k s t. Fine g sound t) (expansion-fine g sound) budget 0 s t (record { sized = sized; limits = h }) in
     (e .holds .sized, e .holds .limits)

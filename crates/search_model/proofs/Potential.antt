@@ -23,24 +23,26 @@ use Rattle.search_model.proofs.Rules.{Kept, spread-rule, Ended, KeptByExpansio
 
 -- A label given to a place, which an unseen place must outweigh.
 pub given-potential :
-  (u : ℕ) {t v : List Record} {q : ℕ} {r : Record}
-  → Changed t q r v
-  → r .mark ≡ 1
-  → (at t q .mark ≡ 0 → r .label < u)
-  → (at t q .mark ≡ 0) ⊎ (r .label < at t q .label)
-  → potential u v ≤ potential u t
+    (u : ℕ) {t v : List Record} {q : ℕ} {r : Record}
+    → Changed t q r v
+    → r .mark ≡ 1
+    → (at t q .mark ≡ 0 → r .label < u)
+    → (at t q .mark ≡ 0) ⊎ (r .label < at t q .label)
+    → potential u v ≤ potential u t
 given-potential u {t} {v} {q} {r} c opened low taken = ⊎-elim fresh (λ ne. ⊎-elim fresh (lower ne) taken) (cases-eq (at t q .mark) 0)
   where
     falls : weight u r ≤ weight u (at t q) → potential u v ≤ potential u t
     falls h =
         let sums : potential u v + weight u (at t q) ≡ potential u t + weight u r = c .sums (weight u) in
         omega arith
+
     fresh : at t q .mark ≡ 0 → potential u v ≤ potential u t
     fresh e =
         let new : weight u r ≡ r .label + 1 = weight-open u r opened in
         let old : weight u (at t q) ≡ u = weight-unseen u (at t q) e in
         let l : r .label < u = low e in
         falls (omega arith)
+
     lower : (at t q .mark ≡ 0 → ⊥) → r .label < at t q .label → potential u v ≤ potential u t
     lower ne l =
         let new : weight u r ≡ r .label + 1 = weight-open u r opened in
@@ -49,7 +51,7 @@ given-potential u {t} {v} {q} {r} c opened low taken = ⊎-elim fresh (λ ne. �
 
 -- An open place that is closed.
 pub closed-potential :
-  (u : ℕ) {t v : List Record} {n : ℕ} → Changed t n (closed (at t n)) v → Open t n → potential u v + 1 ≡ potential u t
+    (u : ℕ) {t v : List Record} {n : ℕ} → Changed t n (closed (at t n)) v → Open t n → potential u v + 1 ≡ potential u t
 closed-potential u {t} {v} {n} c opened =
     let sums : potential u v + weight u (at t n) ≡ potential u t + weight u (closed (at t n)) = c .sums (weight u) in
     let old : weight u (at t n) ≡ at t n .label + 1 = weight-open u (at t n) opened in
@@ -74,7 +76,7 @@ module _ (g : Guided) (sound : SoundGuided g) where
       taken : (k : ℕ) (t : List Record) (l : Leg) → Given g t n k l → Fallen x k t → Fallen x (suc k) (set t (l .target) (given-record g t n k l))
       taken k t l h p =
           let lower : potential (limit + 1) (set t (l .target) (given-record g t n k l)) ≤ potential (limit + 1) t =
-            given-potential (limit + 1) (h .change) refl (λ _. omega (arith, h .small)) (h .reason) in
+          given-potential (limit + 1) (h .change) refl (λ _. omega (arith, h .small)) (h .reason) in
           record { sized = h .change .sized ∙ p .sized; below = omega (arith, p .below) }
 
   -- After k expansions the potential has fallen by k from x.
@@ -87,26 +89,26 @@ module _ (g : Guided) (sound : SoundGuided g) where
       let c : Changed t n (closed (at t n)) (set t n (closed (at t n))) = closing t n (h .opened) in
       let one : potential (limit + 1) (set t n (closed (at t n))) + 1 ≡ potential (limit + 1) t = closed-potential (limit + 1) c (h .opened) in
       let all : Fallen (potential (limit + 1) (set t n (closed (at t n)))) (g .floor .count n) (expanded g n t) =
-        spread-rule
-          g
-          n
-          (Fallen (potential (limit + 1) (set t n (closed (at t n)))))
-          (legs-fall n (potential (limit + 1) (set t n (closed (at t n)))))
-          (set t n (closed (at t n)))
-          (record { sized = c .sized ∙ p .sized; below = le-refl (potential (limit + 1) (set t n (closed (at t n)))) })
-          (g .floor .count n) in
+      spread-rule
+      g
+      n
+      (Fallen (potential (limit + 1) (set t n (closed (at t n)))))
+      (legs-fall n (potential (limit + 1) (set t n (closed (at t n)))))
+      (set t n (closed (at t n)))
+      (record { sized = c .sized ∙ p .sized; below = le-refl (potential (limit + 1) (set t n (closed (at t n)))) })
+      (g .floor .count n) in
       record { sized = all .sized; below = omega (arith, all .below, p .below) }
 
 pub ending : Ending
 ending g budget s t sound sized =
     let e : Ended g (FallenBy g sound (potential (limit + 1) t)) 0 budget (going g budget s t) =
-      going-rule
-        g
-        (FallenBy g sound (potential (limit + 1) t))
-        (expansion-falls g sound (potential (limit + 1) t))
-        budget
-        0
-        s
-        t
-        (record { sized = sized; below = omega arith }) in
+    going-rule
+    g
+    (FallenBy g sound (potential (limit + 1) t))
+    (expansion-falls g sound (potential (limit + 1) t))
+    budget
+    0
+    s
+    t
+    (record { sized = sized; below = omega arith }) in
     omega (arith, e .holds .below)

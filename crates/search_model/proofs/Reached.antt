@@ -62,17 +62,17 @@ module _ (g : Guided) (sound : SoundGuided g) where
       }
     where
       taken :
-        (k : ℕ) (t : List Record) (l : Leg)
-        → g .floor .leg n k ≡ Some l
-        → Given g t n k l
-        → Half start n x k t
-        → Half start n x (suc k) (set t (l .target) (given-record g t n k l))
+          (k : ℕ) (t : List Record) (l : Leg)
+          → g .floor .leg n k ≡ Some l
+          → Given g t n k l
+          → Half start n x k t
+          → Half start n x (suc k) (set t (l .target) (given-record g t n k l))
       taken k t l e h p =
           let u : List Record = set t (l .target) (given-record g t n k l) in
           let small : at t (l .target) .mark ≡ 0 → offered-label t n l < greatest-label (g .floor) + 1 =
-            λ z. omega (arith, fresh-small g sound start t n k l (p .invariant) (p .seen) e z) in
+          λ z. omega (arith, fresh-small g sound start t n k l (p .invariant) (p .seen) e z) in
           let lower : potential (greatest-label (g .floor) + 1) (set t (l .target) (given-record g t n k l)) ≤ potential (greatest-label (g .floor) + 1) t =
-            given-potential (greatest-label (g .floor) + 1) (h .change) refl small (h .reason) in
+          given-potential (greatest-label (g .floor) + 1) (h .change) refl small (h .reason) in
           record {
             invariant = given-step g sound start t n k l e (p .invariant) (p .seen) u (h .change) (h .reason);
             seen = still-seen g sound start t n k l e (p .invariant) (p .seen) u (h .change) (h .reason) n (p .seen);
@@ -84,31 +84,31 @@ module _ (g : Guided) (sound : SoundGuided g) where
       let u : List Record = set t n (closed (at t n)) in
       let c : Changed t n (closed (at t n)) u = closing t n (h .opened) in
       let one : potential (greatest-label (g .floor) + 1) (set t n (closed (at t n))) + 1 ≡ potential (greatest-label (g .floor) + 1) t =
-        closed-potential (greatest-label (g .floor) + 1) c (h .opened) in
+      closed-potential (greatest-label (g .floor) + 1) c (h .opened) in
       let all : Half (s .start) n (potential (greatest-label (g .floor) + 1) u) (g .floor .count n) (expanded g n t) =
-        spread-rule
-          g
-          n
-          (Half (s .start) n (potential (greatest-label (g .floor) + 1) u))
-          (legs-keep (s .start) n (potential (greatest-label (g .floor) + 1) u))
-          u
-          (record {
-             invariant = closing-step g sound (s .start) t n (p .reached .invariant) (h .opened) (h .at-goal) u c;
-             seen = closing-seen g sound (s .start) t n (p .reached .invariant) (h .opened) (h .at-goal) u c;
-             below = le-refl (potential (greatest-label (g .floor) + 1) u);
-           })
-          (g .floor .count n) in
+      spread-rule
+      g
+      n
+      (Half (s .start) n (potential (greatest-label (g .floor) + 1) u))
+      (legs-keep (s .start) n (potential (greatest-label (g .floor) + 1) u))
+      u
+      (record {
+        invariant = closing-step g sound (s .start) t n (p .reached .invariant) (h .opened) (h .at-goal) u c;
+        seen = closing-seen g sound (s .start) t n (p .reached .invariant) (h .opened) (h .at-goal) u c;
+        below = le-refl (potential (greatest-label (g .floor) + 1) u);
+      })
+      (g .floor .count n) in
       let lower : potential (greatest-label (g .floor) + 1) (expanded g n t) ≤ potential (greatest-label (g .floor) + 1) (set t n (closed (at t n))) = all .below in
       let room : s .total + 1 + potential (greatest-label (g .floor) + 1) (expanded g n t) ≤ most-expansions (g .floor) = omega (arith, p .reached .spent) in
       let exact : min (s .total + 1) greatest-total ≡ s .total + 1 = omega (arith, most-expansions-below (g .floor) (sound .floor)) in
       record {
         reached =
-          record {
-            invariant = finished g sound (s .start) (expanded g n t) n (all .invariant);
-            size = p .reached .size;
-            bound = p .reached .bound;
-            spent = subst (λ x. x + potential (greatest-label (g .floor) + 1) (expanded g n t) ≤ most-expansions (g .floor)) (sym exact) room;
-          };
+            record {
+              invariant = finished g sound (s .start) (expanded g n t) n (all .invariant);
+              size = p .reached .size;
+              bound = p .reached .bound;
+              spent = subst (λ x. x + potential (greatest-label (g .floor) + 1) (expanded g n t) ≤ most-expansions (g .floor)) (sym exact) room;
+            };
         start = p .start;
         bound = p .bound;
         total = omega (arith, exact, p .total);
@@ -126,9 +126,9 @@ module _ (g : Guided) (sound : SoundGuided g) where
 blank-at : (n p : ℕ) → at (replicate n blank) p ≡ blank
 blank-at n p =
     ⊎-elim
-      (λ l. getD-replicate n p blank blank l)
-      (λ l. getD-past (replicate n blank) p blank (subst (λ x. x ≤ p) (sym (length-replicate n blank)) l))
-      (cases-lt p n)
+    (λ l. getD-replicate n p blank blank l)
+    (λ l. getD-past (replicate n blank) p blank (subst (λ x. x ≤ p) (sym (length-replicate n blank)) l))
+    (cases-lt p n)
 
 -- Where a search begins.
 module _ (g : Guided) (sound : SoundGuided g) (start : ℕ) (on : start < g .floor .size) where
@@ -166,52 +166,52 @@ module _ (g : Guided) (sound : SoundGuided g) (start : ℕ) (on : start < g .flo
   begun-potential : potential (greatest-label (g .floor) + 1) (first-records g start) ≤ most-expansions (g .floor)
   begun-potential =
       subst
-        (λ n. potential (greatest-label (g .floor) + 1) (first-records g start) ≤ n * (greatest-label (g .floor) + 1))
-        begun-sized
-        (sumBy-le
-           (weight (greatest-label (g .floor) + 1))
-           (greatest-label (g .floor) + 1)
-           (first-records g start)
-           (all-from-getD (λ r. weight (greatest-label (g .floor) + 1) r ≤ greatest-label (g .floor) + 1) (first-records g start) blank (λ i l. by i)))
+      (λ n. potential (greatest-label (g .floor) + 1) (first-records g start) ≤ n * (greatest-label (g .floor) + 1))
+      begun-sized
+      (sumBy-le
+      (weight (greatest-label (g .floor) + 1))
+      (greatest-label (g .floor) + 1)
+      (first-records g start)
+      (all-from-getD (λ r. weight (greatest-label (g .floor) + 1) r ≤ greatest-label (g .floor) + 1) (first-records g start) blank (λ i l. by i)))
     where
       by : (i : ℕ) → weight (greatest-label (g .floor) + 1) (at (first-records g start) i) ≤ greatest-label (g .floor) + 1
       by i =
           ⊎-elim
-            (λ x. subst (λ (r : Record). weight (greatest-label (g .floor) + 1) r ≤ greatest-label (g .floor) + 1) (sym (x .1)) (omega arith))
-            (λ x. subst (λ (r : Record). weight (greatest-label (g .floor) + 1) r ≤ greatest-label (g .floor) + 1) (sym x) (le-refl (greatest-label (g .floor) + 1)))
-            (begun-at i)
+          (λ x. subst (λ (r : Record). weight (greatest-label (g .floor) + 1) r ≤ greatest-label (g .floor) + 1) (sym (x .1)) (omega arith))
+          (λ x. subst (λ (r : Record). weight (greatest-label (g .floor) + 1) r ≤ greatest-label (g .floor) + 1) (sym x) (le-refl (greatest-label (g .floor) + 1)))
+          (begun-at i)
 
   -- A begin with a valid bound reaches.
   pub begin-reaches : (bound : Bound) → ValidBound bound → Reached g (first-search g start bound) (first-records g start)
   begin-reaches bound v =
       record {
         invariant =
-          record {
-            sized = begun-sized;
-            start-seen = subst (λ (r : Record). 1 ≤ r .mark) (sym (begun .here)) (omega arith);
-            start-label = ap (λ (r : Record). r .label) (begun .here);
-            marks =
-              λ p.
-                ⊎-elim
+            record {
+              sized = begun-sized;
+              start-seen = subst (λ (r : Record). 1 ≤ r .mark) (sym (begun .here)) (omega arith);
+              start-label = ap (λ (r : Record). r .label) (begun .here);
+              marks =
+                  λ p.
+                  ⊎-elim
                   (λ x. subst (λ (r : Record). r .mark ≤ 2) (sym (x .1)) (omega arith))
                   (λ x. subst (λ (r : Record). r .mark ≤ 2) (sym x) (omega arith))
                   (begun-at p);
-            labels =
-              λ p s.
-                let zero-label : at (first-records g start) p .label ≡ 0 = ap (λ (r : Record). r .label) (begun-seen p s .1) in
-                let one : greatest-cost (g .floor) * 1 ≤ greatest-cost (g .floor) * seen-count (first-records g start) =
+              labels =
+                  λ p s.
+                  let zero-label : at (first-records g start) p .label ≡ 0 = ap (λ (r : Record). r .label) (begun-seen p s .1) in
+                  let one : greatest-cost (g .floor) * 1 ≤ greatest-cost (g .floor) * seen-count (first-records g start) =
                   mul-le-mul-left (greatest-cost (g .floor)) one-seen in
-                omega arith;
-            chains = λ p s. root (begun-seen p s .0);
-            relaxed = λ p j l c e guard. absurd (never-closed p c);
-            no-goals = λ p c. absurd (never-closed p c);
-            estimates =
-              λ p s.
-                subst
+                  omega arith;
+              chains = λ p s. root (begun-seen p s .0);
+              relaxed = λ p j l c e guard. absurd (never-closed p c);
+              no-goals = λ p c. absurd (never-closed p c);
+              estimates =
+                  λ p s.
+                  subst
                   (Estimates g p)
                   (sym (begun-seen p s .1))
                   (subst (λ q. Estimates g q first) (sym (begun-seen p s .0)) (record { low = refl; hope = refl; steps = refl }));
-          };
+            };
         size = refl;
         bound = v;
         spent = omega (arith, begun-potential);

@@ -22,29 +22,29 @@ pub record Kept (g : Guided) (n : ℕ) (P : ℕ → List Record → Type 0) : Ty
   pub barred : (k : ℕ) (t : List Record) → g .floor .leg n k ≡ None → P k t → P (suc k) t
   pub passed : (k : ℕ) (t : List Record) (l : Leg) → g .floor .leg n k ≡ Some l → takes (at t n .label + l .cost) (at t (l .target)) ≡ false → P k t → P (suc k) t
   pub given :
-    (k : ℕ) (t : List Record) (l : Leg)
-    → g .floor .leg n k ≡ Some l
-    → takes (at t n .label + l .cost) (at t (l .target)) ≡ true
-    → P k t
-    → P (suc k) (set t (l .target) (labelled g (l .target) (at t n .label + l .cost) n k))
+      (k : ℕ) (t : List Record) (l : Leg)
+      → g .floor .leg n k ≡ Some l
+      → takes (at t n .label + l .cost) (at t (l .target)) ≡ true
+      → P k t
+      → P (suc k) (set t (l .target) (labelled g (l .target) (at t n .label + l .cost) n k))
 
 pub spread-rule : (g : Guided) (n : ℕ) (P : ℕ → List Record → Type 0) → Kept g n P → (t : List Record) → P 0 t → (k : ℕ) → P k (spread g n k t)
 spread-rule g n P h t p zero = p
 spread-rule g n P h t p (suc k) = by-leg (spread g n k t) (spread-rule g n P h t p k) (g .floor .leg n k) refl
   where
     by-leg :
-      (u : List Record)
-      → P k u
-      → (x : Option Leg)
-      → g .floor .leg n k ≡ x
-      → P (suc k) (elim x [ None ↦ u | Some l ↦ offer g (l .target) (at u n .label + l .cost) n k u ])
+        (u : List Record)
+        → P k u
+        → (x : Option Leg)
+        → g .floor .leg n k ≡ x
+        → P (suc k) (elim x [ None ↦ u | Some l ↦ offer g (l .target) (at u n .label + l .cost) n k u ])
     by-leg u q None e = h .barred k u e q
     by-leg u q (Some l) e = by-test (takes (at u n .label + l .cost) (at u (l .target))) refl
       where
         by-test :
-          (b : Bool)
-          → takes (at u n .label + l .cost) (at u (l .target)) ≡ b
-          → P (suc k) (elim b [ true ↦ set u (l .target) (labelled g (l .target) (at u n .label + l .cost) n k) | false ↦ u ])
+            (b : Bool)
+            → takes (at u n .label + l .cost) (at u (l .target)) ≡ b
+            → P (suc k) (elim b [ true ↦ set u (l .target) (labelled g (l .target) (at u n .label + l .cost) n k) | false ↦ u ])
         by-test true x = h .given k u l e x q
         by-test false x = h .passed k u l e x q
 
@@ -98,19 +98,19 @@ module _ (g : Guided) (P : ℕ → Search → List Record → Type 0) where
   going-rule keeps zero k s t p = by (turn g s t) (turn-says g s t)
     where
       by :
-        (x : Turn)
-        → TurnSays g s t x
-        → Ended g P k 0 (elim x [ nothing ↦ stop Barren s t | goal n ↦ stop (Settled n) s t | other n ↦ stop More s t ])
+          (x : Turn)
+          → TurnSays g s t x
+          → Ended g P k 0 (elim x [ nothing ↦ stop Barren s t | goal n ↦ stop (Settled n) s t | other n ↦ stop More s t ])
       by nothing h = ends k 0 s t Barren p h (λ _. refl)
       by (goal n) h = ends k 0 s t (Settled n) p h (λ _. refl)
       by (other n) h = ends k 0 s t More p (n, h) (λ _. refl)
   going-rule keeps (suc budget) k s t p = by (turn g s t) (turn-says g s t) (λ n h. going-rule keeps budget (suc k) (counted s) (expanded g n t) (keeps k s t n h p))
     where
       by :
-        (x : Turn)
-        → TurnSays g s t x
-        → ((n : ℕ) → Picked g s t n false → Ended g P (suc k) budget (going g budget (counted s) (expanded g n t)))
-        → Ended g P k (suc budget) (elim x [ nothing ↦ stop Barren s t | goal n ↦ stop (Settled n) s t | other n ↦ after n (going g budget (counted s) (expanded g n t)) ])
+          (x : Turn)
+          → TurnSays g s t x
+          → ((n : ℕ) → Picked g s t n false → Ended g P (suc k) budget (going g budget (counted s) (expanded g n t)))
+          → Ended g P k (suc budget) (elim x [ nothing ↦ stop Barren s t | goal n ↦ stop (Settled n) s t | other n ↦ after n (going g budget (counted s) (expanded g n t)) ])
       by nothing h more = ends k (suc budget) s t Barren p h (not-more refl)
       by (goal n) h more = ends k (suc budget) s t (Settled n) p h (not-more-either {m = n} refl)
       by (other n) h more = goes-on k budget n (going g budget (counted s) (expanded g n t)) (more n h)

@@ -24,12 +24,12 @@ use Rattle.search_model.proofs.Invariant.{Chain, root, link}
 
 -- A route with one more leg at its end.
 route-snoc :
-  (m : Meaning) (p : ℕ) (qs : List ℕ) (c q k : ℕ) (l : Leg)
-  → Route m p qs c
-  → m .leg (last p qs) k ≡ Some l
-  → l .target ≡ q
-  → q < m .size
-  → Route m p (qs ++ (q ∷ [])) (c + l .cost) × (last p (qs ++ (q ∷ [])) ≡ q)
+    (m : Meaning) (p : ℕ) (qs : List ℕ) (c q k : ℕ) (l : Leg)
+    → Route m p qs c
+    → m .leg (last p qs) k ≡ Some l
+    → l .target ≡ q
+    → q < m .size
+    → Route m p (qs ++ (q ∷ [])) (c + l .cost) × (last p (qs ++ (q ∷ [])) ≡ q)
 route-snoc m p [] c q k l (alone on free) usable to q-on = (onward k l 0 usable to (alone q-on refl) (omega arith), refl)
 route-snoc m p (r ∷ rs) c q k l (onward j d e first step route cost) usable to q-on =
     let more : Route m r (rs ++ (q ∷ [])) (e + l .cost) × (last r (rs ++ (q ∷ [])) ≡ q) = route-snoc m r rs e q k l route usable to q-on in
@@ -43,6 +43,14 @@ pub record TrailTo (m : Meaning) (start p n : ℕ) (w : Trail) : Type 0 where
   pub ends : last start rest ≡ p
   pub few : length (w .places) ≤ n
 
+-- What is read of a place on a chain, within as many places as there are.
+pub record Readable (m : Meaning) (start : ℕ) (t : List Record) (p : ℕ) : Type 0 where
+  pub trail : Trail
+  pub is : follow m start t (m .size) p ≡ Some trail
+  pub to : TrailTo m start p (m .size) trail
+  pub cheap : trail .cost ≤ at t p .label
+
+-- What is read, if anything, is a trail.
 abbrev Says : Meaning → ℕ → ℕ → ℕ → Option Trail → Type 0
 Says m start p n None = Unit {0}
 Says m start p n (Some w) = TrailTo m start p n w
@@ -69,26 +77,31 @@ module _ (m : Meaning) (sound : Sound m) (start : ℕ) (on : start < m .size) (t
     where
       x : Option Trail
       x = follow m start t n (at t p .parent)
+
       by-target : (l : Leg) (b : Bool) → _≡_ {A = Option Trail} (elim b [ true ↦ extended (l .cost) p x | false ↦ None ]) (back-target b l p x)
       by-target l true = refl
       by-target l false = refl
+
       by-leg :
-        (o : Option Leg)
-        → _≡_ {A = Option Trail}
-            (elim o [ None ↦ None | Some l ↦ elim (eqb (l .target) p) [ true ↦ extended (l .cost) p x | false ↦ None ] ])
-            (back-leg o p x)
+          (o : Option Leg)
+          → _≡_ {A = Option Trail}
+          (elim o [ None ↦ None | Some l ↦ elim (eqb (l .target) p) [ true ↦ extended (l .cost) p x | false ↦ None ] ])
+          (back-leg o p x)
       by-leg None = refl
       by-leg (Some l) = by-target l (eqb (l .target) p)
+
       by-start :
-        (b : Bool)
-        → _≡_ {A = Option Trail}
-            (elim b [
-               true ↦ Some (record { places = p ∷ []; cost = 0 })
-             | false ↦
-               elim (m .leg (at t p .parent) (at t p .leg)) [
-                 None ↦ None
-               | Some l ↦ elim (eqb (l .target) p) [ true ↦ extended (l .cost) p x | false ↦ None ] ] ])
-            (back-start b p x)
+          (b : Bool)
+          → _≡_ {A = Option Trail}
+          (elim b [
+            | true ↦ Some (record { places = p ∷ []; cost = 0 })
+            | false ↦
+                elim (m .leg (at t p .parent) (at t p .leg)) [
+                  | None ↦ None
+                  | Some l ↦ elim (eqb (l .target) p) [ true ↦ extended (l .cost) p x | false ↦ None ]
+                ]
+          ])
+          (back-start b p x)
       by-start true = refl
       by-start false = by-leg (m .leg (at t p .parent) (at t p .leg))
 
@@ -96,43 +109,46 @@ module _ (m : Meaning) (sound : Sound m) (start : ℕ) (on : start < m .size) (t
   data Back (p : ℕ) : Type 0 where
     arrives : p ≡ start → ((n : ℕ) → follow m start t (suc n) p ≡ Some (record { places = p ∷ []; cost = 0 })) → Back p
     lost :
-      (p ≡ start → ⊥)
-      → ((l : Leg) → m .leg (at t p .parent) (at t p .leg) ≡ Some l → l .target ≡ p → ⊥)
-      → ((n : ℕ) → follow m start t (suc n) p ≡ None)
-      → Back p
+        (p ≡ start → ⊥)
+        → ((l : Leg) → m .leg (at t p .parent) (at t p .leg) ≡ Some l → l .target ≡ p → ⊥)
+        → ((n : ℕ) → follow m start t (suc n) p ≡ None)
+        → Back p
     comes :
-      (p ≡ start → ⊥)
-      → (l : Leg)
-      → m .leg (at t p .parent) (at t p .leg) ≡ Some l
-      → l .target ≡ p
-      → ((n : ℕ) → follow m start t (suc n) p ≡ extended (l .cost) p (follow m start t n (at t p .parent)))
-      → Back p
+        (p ≡ start → ⊥)
+        → (l : Leg)
+        → m .leg (at t p .parent) (at t p .leg) ≡ Some l
+        → l .target ≡ p
+        → ((n : ℕ) → follow m start t (suc n) p ≡ extended (l .cost) p (follow m start t n (at t p .parent)))
+        → Back p
 
   way : (p : ℕ) → Back p
   way p = by-start (eqb p start) refl
     where
       x : ℕ → Option Trail
       x n = follow m start t n (at t p .parent)
+
       by-target : (l : Leg) → eqb p start ≡ false → m .leg (at t p .parent) (at t p .leg) ≡ Some l → (b : Bool) → eqb (l .target) p ≡ b → Back p
       by-target l e h true u =
           comes
-            (eqb-false p start e)
-            l
-            h
-            (eqb-true (l .target) p u)
-            (λ n. follow-back n p ∙ ap (λ b. back-start b p (x n)) e ∙ ap (λ o. back-leg o p (x n)) h ∙ ap (λ b. back-target b l p (x n)) u)
+          (eqb-false p start e)
+          l
+          h
+          (eqb-true (l .target) p u)
+          (λ n. follow-back n p ∙ ap (λ b. back-start b p (x n)) e ∙ ap (λ o. back-leg o p (x n)) h ∙ ap (λ b. back-target b l p (x n)) u)
       by-target l e h false u =
           lost
-            (eqb-false p start e)
-            (λ d y z. let same : d ≡ l = cc in eqb-false (l .target) p u (ap (λ (l : Leg). l .target) (sym same) ∙ z))
-            (λ n. follow-back n p ∙ ap (λ b. back-start b p (x n)) e ∙ ap (λ o. back-leg o p (x n)) h ∙ ap (λ b. back-target b l p (x n)) u)
+          (eqb-false p start e)
+          (λ d y z. let same : d ≡ l = cc in eqb-false (l .target) p u (ap (λ (l : Leg). l .target) (sym same) ∙ z))
+          (λ n. follow-back n p ∙ ap (λ b. back-start b p (x n)) e ∙ ap (λ o. back-leg o p (x n)) h ∙ ap (λ b. back-target b l p (x n)) u)
+
       by-leg : eqb p start ≡ false → (o : Option Leg) → m .leg (at t p .parent) (at t p .leg) ≡ o → Back p
       by-leg e None h =
           lost
-            (eqb-false p start e)
-            (λ d y _. let z : _≡_ {A = ℕ} 0 1 = cc in omega arith)
-            (λ n. follow-back n p ∙ ap (λ b. back-start b p (x n)) e ∙ ap (λ o. back-leg o p (x n)) h)
+          (eqb-false p start e)
+          (λ d y _. let z : _≡_ {A = ℕ} 0 1 = cc in omega arith)
+          (λ n. follow-back n p ∙ ap (λ b. back-start b p (x n)) e ∙ ap (λ o. back-leg o p (x n)) h)
       by-leg e (Some l) h = by-target l e h (eqb (l .target) p) refl
+
       by-start : (b : Bool) → eqb p start ≡ b → Back p
       by-start true e = arrives (eqb-true p start e) (λ n. follow-back n p ∙ ap (λ b. back-start b p (x n)) e)
       by-start false e = by-leg e (m .leg (at t p .parent) (at t p .leg)) refl
@@ -143,7 +159,7 @@ module _ (m : Meaning) (sound : Sound m) (start : ℕ) (on : start < m .size) (t
   extended-says n p k l q usable to (Some w) h =
       let p-on : p < m .size = subst (λ x. x < m .size) to (sound .limits .targets q k l usable) in
       let more : Route m start (h .rest ++ (p ∷ [])) (w .cost + l .cost) × (last start (h .rest ++ (p ∷ [])) ≡ p) =
-        route-snoc m start (h .rest) (w .cost) p k l (h .route) (ap (λ x. m .leg x k) (h .ends) ∙ usable) to p-on in
+      route-snoc m start (h .rest) (w .cost) p k l (h .route) (ap (λ x. m .leg x k) (h .ends) ∙ usable) to p-on in
       record {
         rest = h .rest ++ (p ∷ []);
         places = ap (λ ps. ps ++ (p ∷ [])) (h .places);
@@ -159,15 +175,15 @@ module _ (m : Meaning) (sound : Sound m) (start : ℕ) (on : start < m .size) (t
       by : Back p → Says m start (at t p .parent) n (follow m start t n (at t p .parent)) → Says m start p (suc n) (follow m start t (suc n) p)
       by (arrives e is) h =
           subst
-            (Says m start p (suc n))
-            (sym (is n))
-            (record { rest = []; places = ap (λ x. x ∷ []) e; route = alone on refl; ends = sym e; few = omega arith })
+          (Says m start p (suc n))
+          (sym (is n))
+          (record { rest = []; places = ap (λ x. x ∷ []) e; route = alone on refl; ends = sym e; few = omega arith })
       by (lost _ _ is) h = subst (Says m start p (suc n)) (sym (is n)) tt
       by (comes _ l usable to is) h =
           subst
-            (Says m start p (suc n))
-            (sym (is n))
-            (extended-says n p (at t p .leg) l (at t p .parent) usable to (follow m start t n (at t p .parent)) h)
+          (Says m start p (suc n))
+          (sym (is n))
+          (extended-says n p (at t p .leg) l (at t p .parent) usable to (follow m start t n (at t p .parent)) h)
 
   -- More places change nothing that is read.
   extended-more : (c p : ℕ) (x y : Option Trail) → ((w : Trail) → x ≡ Some w → y ≡ Some w) → (w : Trail) → extended c p x ≡ Some w → extended c p y ≡ Some w
@@ -179,21 +195,21 @@ module _ (m : Meaning) (sound : Sound m) (start : ℕ) (on : start < m .size) (t
   follow-more (suc n) p w e = by (way p) (follow-more n (at t p .parent))
     where
       by :
-        Back p
-        → ((v : Trail) → follow m start t n (at t p .parent) ≡ Some v → follow m start t (suc n) (at t p .parent) ≡ Some v)
-        → follow m start t (suc (suc n)) p ≡ Some w
+          Back p
+          → ((v : Trail) → follow m start t n (at t p .parent) ≡ Some v → follow m start t (suc n) (at t p .parent) ≡ Some v)
+          → follow m start t (suc (suc n)) p ≡ Some w
       by (arrives _ is) h = is (suc n) ∙ sym (is n) ∙ e
       by (lost _ _ is) h = is (suc n) ∙ sym (is n) ∙ e
       by (comes _ l _ _ is) h =
           is (suc n)
           ∙ extended-more
-              (l .cost)
-              p
-              (follow m start t n (at t p .parent))
-              (follow m start t (suc n) (at t p .parent))
-              h
-              w
-              (sym (is n) ∙ e)
+          (l .cost)
+          p
+          (follow m start t n (at t p .parent))
+          (follow m start t (suc n) (at t p .parent))
+          h
+          w
+          (sym (is n) ∙ e)
 
   follow-raised : (d n p : ℕ) (w : Trail) → follow m start t n p ≡ Some w → follow m start t (d + n) p ≡ Some w
   follow-raised zero n p w e = subst (λ k. follow m start t k p ≡ Some w) (sym (zero-add n)) e
@@ -235,13 +251,12 @@ module _ (m : Meaning) (sound : Sound m) (start : ℕ) (on : start < m .size) (t
       by (lost _ _ is) = let same = is (suc i) in let z : _≡_ {A = ℕ} 0 1 = cc in absurd (omega arith)
       by (comes _ l usable to is) =
           let some : (v : Trail) × (follow m start t (suc i) (at t p .parent) ≡ Some v) =
-            extended-some (l .cost) p (follow m start t (suc i) (at t p .parent)) w (sym (is (suc i)) ∙ e) in
-          (
+          extended-some (l .cost) p (follow m start t (suc i) (at t p .parent)) w (sym (is (suc i)) ∙ e) in (
             at t p .parent,
             some .0,
             leg-place m sound (at t p .parent) (at t p .leg) l usable,
             some .1,
-            extended-none (l .cost) p (follow m start t i (at t p .parent)) (sym (is i) ∙ n)
+            extended-none (l .cost) p (follow m start t i (at t p .parent)) (sym (is i) ∙ n),
           )
 
   grown : (i p : ℕ) (w : Trail) → p < m .size → follow m start t (suc i) p ≡ Some w → follow m start t i p ≡ None → sum-below (found-within i) (m .size) < sum-below (found-within (suc i)) (m .size)
@@ -286,6 +301,7 @@ module _ (m : Meaning) (sound : Sound m) (start : ℕ) (on : start < m .size) (t
     where
       named : m .leg (at t p .parent) (at t p .leg) ≡ Some d
       named = ap (λ x. m .leg x (at t p .leg)) parent ∙ leg
+
       by : Followed q → Back p → Followed p
       by h (arrives _ is) = record { within = 1; trail = record { places = p ∷ []; cost = 0 }; is = is 0; cheap = omega arith }
       by h (lost _ never is) = absurd (never d named to)
@@ -299,14 +315,7 @@ module _ (m : Meaning) (sound : Sound m) (start : ℕ) (on : start < m .size) (t
             cheap = omega (arith, h .cheap);
           }
 
-  -- What is read of a place on a chain, within as many places as there are.
-  pub record Readable (p : ℕ) : Type 0 where
-    pub trail : Trail
-    pub is : follow m start t (m .size) p ≡ Some trail
-    pub to : TrailTo m start p (m .size) trail
-    pub cheap : trail .cost ≤ at t p .label
-
-  pub chain-readable : (p : ℕ) → p < m .size → Chain m start t p → Readable p
+  pub chain-readable : (p : ℕ) → p < m .size → Chain m start t p → Readable m start t p
   chain-readable p p-on chain =
       let h : Followed p = chain-followed p chain in
       let e : follow m start t (m .size) p ≡ Some (h .trail) = follow-enough (h .within) p (h .trail) p-on (h .is) in

@@ -36,25 +36,25 @@ pub data Event : Type 0 where
 pub data Run (g : Guided) : State → List Event → State → Type 0 where
   done : {z : State} → Run g z [] z
   advance :
-    {z : State} {es : List Event} (budget : ℕ) (s : Search) (t : List Record) (o : Outcome)
-    → o ≡ going g budget s t
-    → Run g (left-by (o .answer) (o .search-after) (o .records)) es z
-    → Run g (running s t) (advanced budget o ∷ es) z
+      {z : State} {es : List Event} (budget : ℕ) (s : Search) (t : List Record) (o : Outcome)
+      → o ≡ going g budget s t
+      → Run g (left-by (o .answer) (o .search-after) (o .records)) es z
+      → Run g (running s t) (advanced budget o ∷ es) z
   rebound-running :
-    {z : State} {es : List Event} (bound : Bound) (s : Search) (t : List Record)
-    → ValidBound bound
-    → Run g (running (rebounded bound s) t) es z
-    → Run g (running s t) (bound-set bound ∷ es) z
+      {z : State} {es : List Event} (bound : Bound) (s : Search) (t : List Record)
+      → ValidBound bound
+      → Run g (running (rebounded bound s) t) es z
+      → Run g (running s t) (bound-set bound ∷ es) z
   rebound-settled :
-    {z : State} {es : List Event} (bound : Bound) (n : ℕ) (s : Search) (t : List Record)
-    → ValidBound bound
-    → Run g (running (rebounded bound s) t) es z
-    → Run g (settled n s t) (bound-set bound ∷ es) z
+      {z : State} {es : List Event} (bound : Bound) (n : ℕ) (s : Search) (t : List Record)
+      → ValidBound bound
+      → Run g (running (rebounded bound s) t) es z
+      → Run g (settled n s t) (bound-set bound ∷ es) z
   read :
-    {z : State} {es : List Event} (n : ℕ) (s : Search) (t : List Record) (r : Option Trail)
-    → r ≡ read-route (g .floor) s t n
-    → Run g (settled n s t) es z
-    → Run g (settled n s t) (route-read n r ∷ es) z
+      {z : State} {es : List Event} (n : ℕ) (s : Search) (t : List Record) (r : Option Trail)
+      → r ≡ read-route (g .floor) s t n
+      → Run g (settled n s t) es z
+      → Run g (settled n s t) (route-read n r ∷ es) z
 
 -- The guarantee of every event, under the bound set last and with the total so far.
 abbrev pub Guaranteed : Meaning → ℕ → Bound → ℕ → List Event → Type 0
