@@ -1,21 +1,24 @@
 -- A place that is given a label never raises the potential, and a place that is closed lowers it by one.
-use Prim.Native.Nat.{ℕ, zero, suc, _+_, _≤_, _<_}
+use Prim.Native.Nat.{ℕ, zero, suc, _+_, _*_, _≤_, _<_}
 use mathlib.Core.List.{List}
 use mathlib.Core.Logic.{_⊎_, inl, inr, ⊎-elim}
-use mathlib.Core.Path.{_≡_, refl, _∙_}
+use mathlib.Core.Path.{_≡_, refl, subst, _∙_}
 use native.Mathlib.Nat.{le-refl}
 use native.Mathlib.Omega.{arith}
 use lib.ListN.{length, set}
+use Rattle.std.proofs.shelf.Elements.{all-from-getD}
+use Rattle.std.proofs.shelf.Sums.{sumBy-le}
 use Rattle.std.proofs.shelf.Tests.{cases-eq}
 use Rattle.floors.specs.declared.leg.Leg.{Leg}
 use Rattle.floors.specs.Guided.{Guided, SoundGuided}
 use Rattle.floors.specs.Sound.{limit}
 use Rattle.search_model.specs.declared.records.Record.{Record}
 use Rattle.search_model.specs.declared.search.Search.{Search}
-use Rattle.search_model.specs.Records.{at, Open}
+use Rattle.search_model.specs.Records.{blank, at, Open}
 use Rattle.search_model.specs.Expansion.{closed, expanded}
 use Rattle.search_model.specs.Advance.{Outcome, expansions, going}
-use Rattle.search_model.specs.Ending.{weight, potential, Ending}
+use Rattle.search_model.specs.Fields.{SeenLimits, RecordLimits, Proper}
+use Rattle.search_model.specs.Ending.{weight-of, weight, potential, Progress, Ending}
 use Rattle.search_model.proofs.Table.{Changed}
 use Rattle.search_model.proofs.Labels.{weight-unseen, weight-open, weight-closed, weight-seen, Given, given-label, given-record, closing}
 use Rattle.search_model.proofs.Chosen.{Picked}
@@ -99,16 +102,43 @@ module _ (g : Guided) (sound : SoundGuided g) where
       (g .floor .count n) in
       record { sized = all .sized; below = omega (arith, all .below, p .below) }
 
-pub ending : Ending
-ending g budget s t sound sized =
+-- The potential is at most what it would be if all places were unseen.
+pub potential-below : (u : ℕ) (t : List Record) → ((p : ℕ) → weight u (at t p) ≤ u) → potential u t ≤ length t * u
+potential-below u t h = sumBy-le (weight u) u t (all-from-getD (λ r. weight u r ≤ u) t blank (λ i l. h i))
+
+weight-below : (r : Record) → RecordLimits r → weight (limit + 1) r ≤ limit + 1
+weight-below r h = by (r .mark) (h .seen)
+  where
+    by : (m : ℕ) → (1 ≤ m → SeenLimits r) → weight-of (limit + 1) m (r .label) ≤ limit + 1
+    by zero s = le-refl (limit + 1)
+    by (suc zero) s = omega (arith, s (omega arith) .label)
+    by (suc (suc m)) s = omega (arith, s (omega arith) .label)
+
+progress : (g : Guided) (budget : ℕ) (s : Search) (t : List Record) → SoundGuided g → length t ≡ g .floor .size → Progress g budget s t
+progress g budget s t sound sized =
     let e : Ended g (FallenBy g sound (potential (limit + 1) t)) 0 budget (going g budget s t) =
-    going-rule
-    g
-    (FallenBy g sound (potential (limit + 1) t))
-    (expansion-falls g sound (potential (limit + 1) t))
-    budget
-    0
-    s
-    t
-    (record { sized = sized; below = omega arith }) in
-    omega (arith, e .holds .below)
+      going-rule
+        g
+        (FallenBy g sound (potential (limit + 1) t))
+        (expansion-falls g sound (potential (limit + 1) t))
+        budget
+        0
+        s
+        t
+        (record { sized = sized; below = omega arith }) in
+    record { falls = omega (arith, e .holds .below); spent = e .spent; affordable = e .affordable }
+
+pub ending : Ending
+ending =
+    record {
+      progress = progress;
+      ends =
+        λ g budget s t sound proper above more.
+          let h : Progress g budget s t = progress g budget s t sound (proper .sized) in
+          let all : potential (limit + 1) t ≤ g .floor .size * (limit + 1) =
+            subst
+              (λ n. potential (limit + 1) t ≤ n * (limit + 1))
+              (proper .sized)
+              (potential-below (limit + 1) t (λ p. weight-below (at t p) (proper .limits p))) in
+          omega (arith, h .falls, h .spent more);
+    }

@@ -8,9 +8,7 @@ use native.Mathlib.Nat.{le-refl, mul-le-mul-left}
 use native.Mathlib.Omega.{arith}
 use lib.ListN.{length, set, replicate, length-replicate, getD-replicate}
 use Rattle.std.specs.declared.option.Option.the-variants.{Some, None}
-use Rattle.std.proofs.shelf.Elements.{all-from-getD}
 use Rattle.std.proofs.shelf.Lists.{getD-past}
-use Rattle.std.proofs.shelf.Sums.{sumBy-le}
 use Rattle.std.proofs.shelf.Tests.{cases-lt}
 use Rattle.floors.specs.declared.leg.Leg.{Leg}
 use Rattle.floors.specs.Guided.{Guided, SoundGuided}
@@ -23,21 +21,25 @@ use Rattle.search_model.specs.Advance.{Outcome, expansions, going}
 use Rattle.search_model.specs.Begin.{first-records, first-search, rebounded}
 use Rattle.search_model.specs.Ending.{weight, potential}
 use Rattle.search_model.specs.Costs.{greatest-cost, greatest-label, most-expansions, ValidBound}
-use Rattle.search_model.proofs.Table.{Changed, changed, changed-at}
+use Rattle.search_model.proofs.Table.{Changed, changed-at, blank-at, begun, begun-keeps, begun-sized}
 use Rattle.search_model.proofs.Labels.{Given, given-label, given-record, offered-label, closing}
-use Rattle.search_model.proofs.Potential.{given-potential, closed-potential}
+use Rattle.search_model.proofs.Potential.{potential-below, given-potential, closed-potential}
 use Rattle.search_model.proofs.Chosen.{Picked}
 use Rattle.search_model.proofs.Rules.{Kept, spread-rule, Ended, KeptByExpansion, going-rule}
 use Rattle.search_model.proofs.Costs.{most-expansions-below}
 use Rattle.search_model.proofs.Invariant.{seen-one, seen-count, Chain, root, Relaxed, Estimates, Inv, fresh-small, barred-step, passed-step, finished}
 use Rattle.search_model.proofs.Steps.{given-step, closing-step, closing-seen, still-seen}
 
--- The invariant holds, and the expansions so far and the potential come to no more than the most expansions.
+-- The potential where an unseen place weighs more than any label that the search gives.
+abbrev pub remaining : Guided → List Record → ℕ
+remaining g t = potential (greatest-label (g .floor) + 1) t
+
+-- The invariant holds, and the expansions so far and those that remain possible come to no more than the most expansions.
 pub record Reached (g : Guided) (s : Search) (t : List Record) : Type 0 where
   pub invariant : Inv g (s .start) t (g .floor .size) 0
   pub size : s .size ≡ g .floor .size
   pub bound : ValidBound (s .bound)
-  pub spent : s .total + potential (greatest-label (g .floor) + 1) t ≤ most-expansions (g .floor)
+  pub spent : s .total + remaining g t ≤ most-expansions (g .floor)
 
 -- A state reached from the search s₀ by k expansions.
 pub record ReachedFrom (g : Guided) (s₀ : Search) (k : ℕ) (s : Search) (t : List Record) : Type 0 where
@@ -51,7 +53,7 @@ module _ (g : Guided) (sound : SoundGuided g) where
   record Half (start n x : ℕ) (k : ℕ) (t : List Record) : Type 0 where
     invariant : Inv g start t n k
     seen : Seen t n
-    below : potential (greatest-label (g .floor) + 1) t ≤ x
+    below : remaining g t ≤ x
 
   legs-keep : (start n x : ℕ) → Kept g n (Half start n x)
   legs-keep start n x =
@@ -71,7 +73,7 @@ module _ (g : Guided) (sound : SoundGuided g) where
           let u : List Record = set t (l .target) (given-record g t n k l) in
           let small : at t (l .target) .mark ≡ 0 → offered-label t n l < greatest-label (g .floor) + 1 =
           λ z. omega (arith, fresh-small g sound start t n k l (p .invariant) (p .seen) e z) in
-          let lower : potential (greatest-label (g .floor) + 1) (set t (l .target) (given-record g t n k l)) ≤ potential (greatest-label (g .floor) + 1) t =
+          let lower : remaining g (set t (l .target) (given-record g t n k l)) ≤ remaining g t =
           given-potential (greatest-label (g .floor) + 1) (h .change) refl small (h .reason) in
           record {
             invariant = given-step g sound start t n k l e (p .invariant) (p .seen) u (h .change) (h .reason);
@@ -83,23 +85,23 @@ module _ (g : Guided) (sound : SoundGuided g) where
   expansion-reaches s₀ k s t n h p =
       let u : List Record = set t n (closed (at t n)) in
       let c : Changed t n (closed (at t n)) u = closing t n (h .opened) in
-      let one : potential (greatest-label (g .floor) + 1) (set t n (closed (at t n))) + 1 ≡ potential (greatest-label (g .floor) + 1) t =
+      let one : remaining g (set t n (closed (at t n))) + 1 ≡ remaining g t =
       closed-potential (greatest-label (g .floor) + 1) c (h .opened) in
-      let all : Half (s .start) n (potential (greatest-label (g .floor) + 1) u) (g .floor .count n) (expanded g n t) =
+      let all : Half (s .start) n (remaining g u) (g .floor .count n) (expanded g n t) =
       spread-rule
       g
       n
-      (Half (s .start) n (potential (greatest-label (g .floor) + 1) u))
-      (legs-keep (s .start) n (potential (greatest-label (g .floor) + 1) u))
+      (Half (s .start) n (remaining g u))
+      (legs-keep (s .start) n (remaining g u))
       u
       (record {
         invariant = closing-step g sound (s .start) t n (p .reached .invariant) (h .opened) (h .at-goal) u c;
         seen = closing-seen g sound (s .start) t n (p .reached .invariant) (h .opened) (h .at-goal) u c;
-        below = le-refl (potential (greatest-label (g .floor) + 1) u);
+        below = le-refl (remaining g u);
       })
       (g .floor .count n) in
-      let lower : potential (greatest-label (g .floor) + 1) (expanded g n t) ≤ potential (greatest-label (g .floor) + 1) (set t n (closed (at t n))) = all .below in
-      let room : s .total + 1 + potential (greatest-label (g .floor) + 1) (expanded g n t) ≤ most-expansions (g .floor) = omega (arith, p .reached .spent) in
+      let lower : remaining g (expanded g n t) ≤ remaining g (set t n (closed (at t n))) = all .below in
+      let room : s .total + 1 + remaining g (expanded g n t) ≤ most-expansions (g .floor) = omega (arith, p .reached .spent) in
       let exact : min (s .total + 1) greatest-total ≡ s .total + 1 = omega (arith, most-expansions-below (g .floor) (sound .floor)) in
       record {
         reached =
@@ -107,7 +109,7 @@ module _ (g : Guided) (sound : SoundGuided g) where
               invariant = finished g sound (s .start) (expanded g n t) n (all .invariant);
               size = p .reached .size;
               bound = p .reached .bound;
-              spent = subst (λ x. x + potential (greatest-label (g .floor) + 1) (expanded g n t) ≤ most-expansions (g .floor)) (sym exact) room;
+              spent = subst (λ x. x + remaining g (expanded g n t) ≤ most-expansions (g .floor)) (sym exact) room;
             };
         start = p .start;
         bound = p .bound;
@@ -123,29 +125,16 @@ module _ (g : Guided) (sound : SoundGuided g) where
   pub rebound-reaches : (s : Search) (t : List Record) (bound : Bound) → ValidBound bound → Reached g s t → Reached g (rebounded bound s) t
   rebound-reaches s t bound v h = record { invariant = h .invariant; size = h .size; bound = v; spent = h .spent }
 
-blank-at : (n p : ℕ) → at (replicate n blank) p ≡ blank
-blank-at n p =
-    ⊎-elim
-    (λ l. getD-replicate n p blank blank l)
-    (λ l. getD-past (replicate n blank) p blank (subst (λ x. x ≤ p) (sym (length-replicate n blank)) l))
-    (cases-lt p n)
-
 -- Where a search begins.
 module _ (g : Guided) (sound : SoundGuided g) (start : ℕ) (on : start < g .floor .size) where
-  abbrev first : Record
-  first = labelled g start 0 start 0
-
-  begun : Changed (replicate (g .floor .size) blank) start first (first-records g start)
-  begun = changed (replicate (g .floor .size) blank) start first (subst (λ x. start < x) (sym (length-replicate (g .floor .size) blank)) on)
-
   -- A place is the start, or its record is blank.
-  begun-at : (p : ℕ) → ((p ≡ start) × (at (first-records g start) p ≡ first)) ⊎ (at (first-records g start) p ≡ blank)
-  begun-at p = ⊎-elim (λ x. inl x) (λ x. inr (x .1 ∙ blank-at (g .floor .size) p)) (changed-at begun p)
+  begun-at : (p : ℕ) → ((p ≡ start) × (at (first-records g start) p ≡ labelled g start 0 start 0)) ⊎ (at (first-records g start) p ≡ blank)
+  begun-at p = ⊎-elim (λ x. inl x) (λ x. inr (x .1 ∙ blank-at (g .floor .size) p)) (changed-at (begun g start on) p)
 
-  begun-seen : (p : ℕ) → Seen (first-records g start) p → (p ≡ start) × (at (first-records g start) p ≡ first)
+  begun-seen : (p : ℕ) → Seen (first-records g start) p → (p ≡ start) × (at (first-records g start) p ≡ labelled g start 0 start 0)
   begun-seen p s = ⊎-elim (λ x. x) (λ x. unseen (ap (λ (r : Record). r .mark) x)) (begun-at p)
     where
-      unseen : at (first-records g start) p .mark ≡ 0 → (p ≡ start) × (at (first-records g start) p ≡ first)
+      unseen : at (first-records g start) p .mark ≡ 0 → (p ≡ start) × (at (first-records g start) p ≡ labelled g start 0 start 0)
       unseen z = absurd (omega arith)
 
   never-closed : (p : ℕ) → Closed (first-records g start) p → ⊥
@@ -157,29 +146,24 @@ module _ (g : Guided) (sound : SoundGuided g) (start : ℕ) (on : start < g .flo
   unfolding seen-count seen-one
   one-seen =
       let none : at (replicate (g .floor .size) blank) start .mark ≡ 0 = ap (λ (r : Record). r .mark) (blank-at (g .floor .size) start) in
-      let sums : seen-count (first-records g start) + min (at (replicate (g .floor .size) blank) start .mark) 1 ≡ seen-count (replicate (g .floor .size) blank) + 1 = begun .sums seen-one in
+      let sums : seen-count (first-records g start) + min (at (replicate (g .floor .size) blank) start .mark) 1 ≡ seen-count (replicate (g .floor .size) blank) + 1 = begun g start on .sums seen-one in
       omega arith
 
-  begun-sized : length (first-records g start) ≡ g .floor .size
-  begun-sized = begun .sized ∙ length-replicate (g .floor .size) blank
-
-  begun-potential : potential (greatest-label (g .floor) + 1) (first-records g start) ≤ most-expansions (g .floor)
-  begun-potential =
+  begun-remaining : remaining g (first-records g start) ≤ most-expansions (g .floor)
+  begun-remaining =
       subst
-      (λ n. potential (greatest-label (g .floor) + 1) (first-records g start) ≤ n * (greatest-label (g .floor) + 1))
-      begun-sized
-      (sumBy-le
-      (weight (greatest-label (g .floor) + 1))
-      (greatest-label (g .floor) + 1)
-      (first-records g start)
-      (all-from-getD (λ r. weight (greatest-label (g .floor) + 1) r ≤ greatest-label (g .floor) + 1) (first-records g start) blank (λ i l. by i)))
-    where
-      by : (i : ℕ) → weight (greatest-label (g .floor) + 1) (at (first-records g start) i) ≤ greatest-label (g .floor) + 1
-      by i =
-          ⊎-elim
-          (λ x. subst (λ (r : Record). weight (greatest-label (g .floor) + 1) r ≤ greatest-label (g .floor) + 1) (sym (x .1)) (omega arith))
-          (λ x. subst (λ (r : Record). weight (greatest-label (g .floor) + 1) r ≤ greatest-label (g .floor) + 1) (sym x) (le-refl (greatest-label (g .floor) + 1)))
-          (begun-at i)
+        (λ n. remaining g (first-records g start) ≤ n * (greatest-label (g .floor) + 1))
+        (begun-sized g start on)
+        (potential-below
+           (greatest-label (g .floor) + 1)
+           (first-records g start)
+           (begun-keeps
+              g
+              start
+              on
+              (λ r. weight (greatest-label (g .floor) + 1) r ≤ greatest-label (g .floor) + 1)
+              (omega arith)
+              (le-refl (greatest-label (g .floor) + 1))))
 
   -- A begin with a valid bound reaches.
   pub begin-reaches : (bound : Bound) → ValidBound bound → Reached g (first-search g start bound) (first-records g start)
@@ -187,15 +171,10 @@ module _ (g : Guided) (sound : SoundGuided g) (start : ℕ) (on : start < g .flo
       record {
         invariant =
             record {
-              sized = begun-sized;
-              start-seen = subst (λ (r : Record). 1 ≤ r .mark) (sym (begun .here)) (omega arith);
-              start-label = ap (λ (r : Record). r .label) (begun .here);
-              marks =
-                  λ p.
-                  ⊎-elim
-                  (λ x. subst (λ (r : Record). r .mark ≤ 2) (sym (x .1)) (omega arith))
-                  (λ x. subst (λ (r : Record). r .mark ≤ 2) (sym x) (omega arith))
-                  (begun-at p);
+              sized = begun-sized g start on;
+              start-seen = subst (λ (r : Record). 1 ≤ r .mark) (sym (begun g start on .here)) (omega arith);
+              start-label = ap (λ (r : Record). r .label) (begun g start on .here);
+              marks = begun-keeps g start on (λ r. r .mark ≤ 2) (omega arith) (omega arith);
               labels =
                   λ p s.
                   let zero-label : at (first-records g start) p .label ≡ 0 = ap (λ (r : Record). r .label) (begun-seen p s .1) in
@@ -210,9 +189,9 @@ module _ (g : Guided) (sound : SoundGuided g) (start : ℕ) (on : start < g .flo
                   subst
                   (Estimates g p)
                   (sym (begun-seen p s .1))
-                  (subst (λ q. Estimates g q first) (sym (begun-seen p s .0)) (record { low = refl; hope = refl; steps = refl }));
+                  (subst (λ q. Estimates g q (labelled g start 0 start 0)) (sym (begun-seen p s .0)) (record { low = refl; hope = refl; steps = refl }));
             };
         size = refl;
         bound = v;
-        spent = omega (arith, begun-potential);
+        spent = omega (arith, begun-remaining);
       }

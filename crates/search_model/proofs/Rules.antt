@@ -88,12 +88,6 @@ module _ (g : Guided) (P : ℕ → Search → List Record → Type 0) where
         affordable = omega (arith, h .affordable);
       }
 
-  not-more : {a : Answer} {n : ℕ} → (a ≡ Barren) → a ≡ More → 0 ≡ n
-  not-more e h = cc
-
-  not-more-either : {a : Answer} {m n : ℕ} → (a ≡ Settled m) → a ≡ More → 0 ≡ n
-  not-more-either e h = cc
-
   pub going-rule : KeptByExpansion g P → (budget k : ℕ) (s : Search) (t : List Record) → P k s t → Ended g P k budget (going g budget s t)
   going-rule keeps zero k s t p = by (turn g s t) (turn-says g s t)
     where
@@ -111,6 +105,6 @@ module _ (g : Guided) (P : ℕ → Search → List Record → Type 0) where
           → TurnSays g s t x
           → ((n : ℕ) → Picked g s t n false → Ended g P (suc k) budget (going g budget (counted s) (expanded g n t)))
           → Ended g P k (suc budget) (elim x [ nothing ↦ stop Barren s t | goal n ↦ stop (Settled n) s t | other n ↦ after n (going g budget (counted s) (expanded g n t)) ])
-      by nothing h more = ends k (suc budget) s t Barren p h (not-more refl)
-      by (goal n) h more = ends k (suc budget) s t (Settled n) p h (not-more-either {m = n} refl)
+      by nothing h more = ends k (suc budget) s t Barren p h (λ e. cc)
+      by (goal n) h more = ends k (suc budget) s t (Settled n) p h (λ e. cc)
       by (other n) h more = goes-on k budget n (going g budget (counted s) (expanded g n t)) (more n h)

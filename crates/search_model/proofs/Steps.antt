@@ -15,7 +15,7 @@ use Rattle.search_model.specs.declared.records.Record.{Record}
 use Rattle.search_model.specs.Records.{at, Seen, Open, Closed}
 use Rattle.search_model.specs.Expansion.{closed}
 use Rattle.search_model.specs.Costs.{greatest-cost}
-use Rattle.search_model.proofs.Table.{Changed, changed-at, seen-on}
+use Rattle.search_model.proofs.Table.{Changed, changed-at, changed-keeps, seen-on}
 use Rattle.search_model.proofs.Labels.{Given, given-record, offered-label}
 use Rattle.search_model.proofs.Invariant.{seen-one, seen-count, Chain, root, link, Relaxed, AllRelaxed, Estimates, Inv, fresh-room, relaxed-more}
 
@@ -52,8 +52,7 @@ module _
 
     -- Seen places stay seen, and their labels do not rise.
     pub still-seen : (p : ℕ) → Seen t p → Seen u p
-    still-seen p s =
-        ⊎-elim (λ x. subst (λ (r : Record). 1 ≤ r .mark) (sym (x .1)) (omega arith)) (λ x. subst (λ (r : Record). 1 ≤ r .mark) (sym (x .1)) s) (changed-at c p)
+    still-seen p s = changed-keeps c (λ r. 1 ≤ r .mark) (omega arith) p s
 
     lower-label : (p : ℕ) → Seen t p → at u p .label ≤ at t p .label
     lower-label p s =
@@ -175,7 +174,7 @@ module _
           sized = c .sized ∙ h .sized;
           start-seen = still-seen start (h .start-seen);
           start-label = ap (λ (r : Record). r .label) start-stays ∙ h .start-label;
-          marks = λ p. ⊎-elim (λ x. subst (λ (r : Record). r .mark ≤ 2) (sym (x .1)) (omega arith)) (λ x. subst (λ (r : Record). r .mark ≤ 2) (sym (x .1)) (h .marks p)) (changed-at c p);
+          marks = λ p. changed-keeps c (λ r. r .mark ≤ 2) (omega arith) p (h .marks p);
           labels = new-labels;
           chains =
               λ p s.
@@ -218,8 +217,7 @@ module _
         ⊎-elim (λ x. let m : at t p .mark ≡ 1 = ap (λ q. at t q .mark) (x .0) ∙ opened in omega arith) (λ x. subst (λ (r : Record). 1 ≤ r .mark) (x .1) s) (changed-at c p)
 
     seen-after : (p : ℕ) → Seen t p → Seen u p
-    seen-after p s =
-        ⊎-elim (λ x. subst (λ (r : Record). 1 ≤ r .mark) (sym (x .1)) (omega arith)) (λ x. subst (λ (r : Record). 1 ≤ r .mark) (sym (x .1)) s) (changed-at c p)
+    seen-after p s = changed-keeps c (λ r. 1 ≤ r .mark) (omega arith) p s
 
     chain-after : (p : ℕ) → Chain (g .floor) start t p → Chain (g .floor) start u p
     chain-after p (root e) = root e
@@ -257,7 +255,7 @@ module _
           sized = c .sized ∙ h .sized;
           start-seen = seen-after start (h .start-seen);
           start-label = same-at (λ r. r .label) refl start ∙ h .start-label;
-          marks = λ p. ⊎-elim (λ x. subst (λ (r : Record). r .mark ≤ 2) (sym (x .1)) (omega arith)) (λ x. subst (λ (r : Record). r .mark ≤ 2) (sym (x .1)) (h .marks p)) (changed-at c p);
+          marks = λ p. changed-keeps c (λ r. r .mark ≤ 2) (omega arith) p (h .marks p);
           labels =
               λ p s.
               let at-p : at u p .label ≡ at t p .label = same-at (λ r. r .label) refl p in
