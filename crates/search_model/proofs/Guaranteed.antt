@@ -13,14 +13,15 @@ use Rattle.search_model.specs.declared.bound.Bound.{Bound}
 use Rattle.search_model.specs.declared.records.Record.{Record}
 use Rattle.search_model.specs.declared.search.Search.{Search}
 use Rattle.search_model.specs.Records.{at, Seen}
-use Rattle.search_model.specs.Advance.{Answer, Barren, Settled, More, Outcome, going}
+use Rattle.search_model.specs.Advance.{Answer, Barren, Settled, More, Outcome, low-mark, going}
 use Rattle.search_model.specs.Begin.{rebounded}
 use Rattle.search_model.specs.Read.{Trail, follow, read-route}
 use Rattle.search_model.specs.Costs.{GoalRoute, ValidBound, most-expansions}
-use Rattle.search_model.specs.Guarantee.{SettledLaw, AnswerLaw, AdvanceLaw, RouteLaw, ReadLaw}
+use Rattle.search_model.specs.Guarantee.{SettledLaw, AnswerLaw, MarkLaw, AdvanceLaw, RouteLaw, ReadLaw}
 use Rattle.search_model.specs.Run.{State, running, settled, barren, left-by, Event, advanced, bound-set, route-read, Run, done, advance, rebound-running, rebound-settled, read, Guaranteed, Guarantee}
 use Rattle.search_model.proofs.Table.{seen-on}
 use Rattle.search_model.proofs.Chosen.{Picked}
+use Rattle.search_model.proofs.Heads.{low-none}
 use Rattle.search_model.proofs.Rules.{AnswerSays, Ended}
 use Rattle.search_model.proofs.Costs.{most-expansions-below}
 use Rattle.search_model.proofs.Reached.{Reached, ReachedFrom, begin-reaches, advance-reaches, rebound-reaches}
@@ -75,6 +76,11 @@ module _ (g : Guided) (sound : SoundGuided g) where
   answer-law s t Barren h says = barren-no-route g sound (s .start) t (h .invariant) says
   answer-law s t (Settled n) h says = settled-law s t n h says
   answer-law s t More h says = tt
+
+  mark-law : (s : Search) (t : List Record) (a : Answer) → AnswerSays g s t a → MarkLaw a (low-mark t)
+  mark-law s t Barren says = rw (low-none t says, low-mark)
+  mark-law s t (Settled n) says = rw (says .marked)
+  mark-law s t More says = rw (says .1 .marked)
 
   -- What is read of a settled goal.
   read-law : (s : Search) (t : List Record) (n : ℕ) → Reached g s t → SettledLaw (g .floor) (s .start) (s .bound) t n → ReadLaw (g .floor) (s .start) (s .bound) n (read-route (g .floor) s t n)
@@ -161,6 +167,11 @@ module _ (g : Guided) (sound : SoundGuided g) (start : ℕ) where
             (λ x b. AnswerLaw (g .floor) x b (going g budget s t .records) (going g budget s t .answer))
             (answer-law g sound (going g budget s t .search-after) (going g budget s t .records) (going g budget s t .answer) (e .holds .reached) (e .says));
         marked =
+          subst
+            (MarkLaw (going g budget s t .answer))
+            (sym (e .marked))
+            (mark-law g sound (going g budget s t .search-after) (going g budget s t .records) (going g budget s t .answer) (e .says));
+        mark-below =
             λ mark is.
             standing-law
             after

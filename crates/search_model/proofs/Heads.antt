@@ -4,17 +4,18 @@ use mathlib.Core.Bool.{true, false}
 use mathlib.Core.List.{List}
 use mathlib.Core.Logic.{_⊎_, inl, inr, ⊎-elim}
 use mathlib.Core.Path.{_≡_, refl, _∙_, ap}
+use native.Mathlib.Nat.{mul-le-mul-left}
 use native.Mathlib.Omega.{arith}
 use lib.Dec.{leb}
 use lib.ListN.{length}
 use Rattle.std.specs.declared.option.Option.{Option}
 use Rattle.std.specs.declared.option.Option.the-variants.{Some, None}
-use Rattle.std.proofs.shelf.Tests.{lt-ltb, le-ltb, eq-eqb, eqb-true, le-leb, leb-true, and-from, and-parts}
+use Rattle.std.proofs.shelf.Tests.{lt-ltb, le-ltb, eq-eqb, eqb-true, le-leb, lt-leb, leb-true, leb-false, and-from, and-parts}
 use Rattle.std.proofs.shelf.Ways.{tells}
 use Rattle.search_model.specs.declared.records.Record.{Record}
 use Rattle.search_model.specs.declared.search.Search.{Search}
 use Rattle.search_model.specs.Records.{at, is-open, f, f-hat, Open}
-use Rattle.search_model.specs.Choice.{least, by-key, low-place, hope-place, near-place, within, is-near, rank, nearer}
+use Rattle.search_model.specs.Choice.{least, by-key, low-place, hope-place, near-place, within, is-near, rank, nearer, if-within, choice}
 use Rattle.search_model.proofs.Least.{least-is, least-none, least-found}
 use Rattle.search_model.proofs.Table.{seen-on}
 use Rattle.search_model.proofs.Chosen.{by-key-ranks, near-ranks, near-open, head-open, head-least, head-missing}
@@ -110,6 +111,48 @@ near-is s t h p e n first = rw (e, near-place) found
         (and-from (is-open (at t p)) (within s (f-hat (at t h)) (at t p)) (eq-eqb (at t p .mark) 1 (n .opened)) (le-leb (s .bound .b * f-hat (at t p)) (s .bound .a * f-hat (at t h)) (n .close)))
         (λ q l x. ordered q (first q (near-test s t (f-hat (at t h)) q x)))
 
+pub near-none : (s : Search) (t : List Record) → ((q : ℕ) → Open t q → ⊥) → near-place s t ≡ None
+near-none s t h = rw (hope-none t h, near-place)
+
 -- f̂ of near is at least f̂ of hope.
 pub hope-before-near : (s : Search) (t : List Record) (h p : ℕ) → hope-place t ≡ Some h → near-place s t ≡ Some p → f-hat (at t h) ≤ f-hat (at t p)
 hope-before-near s t h p e n = head-least f-hat t h e p (near-open s t p n)
+
+-- The choice: near where it is within the mark, otherwise hope where it is, otherwise low.
+module _ (s : Search) (mark : ℕ) (t : List Record) where
+  if-within-yes : (p : ℕ) (y : Option ℕ) → within s mark (at t p) ≡ true → if-within s mark t (Some p) y ≡ Some p
+  if-within-yes p y w = rw (w, if-within)
+
+  if-within-no : (p : ℕ) (y : Option ℕ) → within s mark (at t p) ≡ false → if-within s mark t (Some p) y ≡ y
+  if-within-no p y w = rw (w, if-within)
+
+  abbrev hope-or-low : Option ℕ → Option ℕ
+  hope-or-low h = if-within s mark t h (low-place t)
+
+  pub choice-near : (p : ℕ) → near-place s t ≡ Some p → within s mark (at t p) ≡ true → choice s mark t ≡ Some p
+  choice-near p n w = ap (λ x. if-within s mark t x (hope-or-low (hope-place t))) n ∙ if-within-yes p (hope-or-low (hope-place t)) w
+
+  past-near : (p : ℕ) → near-place s t ≡ Some p → within s mark (at t p) ≡ false → choice s mark t ≡ hope-or-low (hope-place t)
+  past-near p n w = ap (λ x. if-within s mark t x (hope-or-low (hope-place t))) n ∙ if-within-no p (hope-or-low (hope-place t)) w
+
+  pub choice-hope :
+    (p h : ℕ)
+    → near-place s t ≡ Some p
+    → within s mark (at t p) ≡ false
+    → hope-place t ≡ Some h
+    → within s mark (at t h) ≡ true
+    → choice s mark t ≡ Some h
+  choice-hope p h n out e w = past-near p n out ∙ ap hope-or-low e ∙ if-within-yes h (low-place t) w
+
+  -- Where hope is not within the mark near is not either, and need not be looked at.
+  pub choice-low : (h : ℕ) → hope-place t ≡ Some h → within s mark (at t h) ≡ false → choice s mark t ≡ low-place t
+  choice-low h e out = by (near-place s t) refl ∙ ap hope-or-low e ∙ if-within-no h (low-place t) out
+    where
+      farther : (p : ℕ) → near-place s t ≡ Some p → within s mark (at t p) ≡ false
+      farther p n =
+          let over : s .bound .a * mark < s .bound .b * f-hat (at t h) = leb-false (s .bound .b * f-hat (at t h)) (s .bound .a * mark) out in
+          let more : s .bound .b * f-hat (at t h) ≤ s .bound .b * f-hat (at t p) = mul-le-mul-left (s .bound .b) (hope-before-near s t h p e n) in
+          lt-leb (s .bound .b * f-hat (at t p)) (s .bound .a * mark) (omega arith)
+      by : (x : Option ℕ) → near-place s t ≡ x → choice s mark t ≡ hope-or-low (hope-place t)
+      by None n = ap (λ x. if-within s mark t x (hope-or-low (hope-place t))) n
+      by (Some p) n = past-near p n (farther p n)

@@ -4,6 +4,7 @@ pub mod Chosen
 pub mod Heads
 pub mod Rules
 pub mod Labels
+pub mod Turns
 pub mod Potential
 pub mod Limits
 pub mod Costs

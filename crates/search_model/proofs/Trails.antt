@@ -55,56 +55,26 @@ abbrev Says : Meaning → ℕ → ℕ → ℕ → Option Trail → Type 0
 Says m start p n None = Unit {0}
 Says m start p n (Some w) = TrailTo m start p n w
 
+-- One step back from a place, test by test.
+module _ (m : Meaning) (start : ℕ) (t : List Record) where
+  pub follow-arrives : (n p : ℕ) → eqb p start ≡ true → follow m start t (suc n) p ≡ Some (record { places = p ∷ []; cost = 0 })
+  follow-arrives n p e = rw (e, follow)
+
+  module _ (n p : ℕ) (away : eqb p start ≡ false) where
+    pub follow-barred : m .leg (at t p .parent) (at t p .leg) ≡ None → follow m start t (suc n) p ≡ None
+    follow-barred h = rw (away, follow, h)
+
+    pub follow-astray : (l : Leg) → m .leg (at t p .parent) (at t p .leg) ≡ Some l → eqb (l .target) p ≡ false → follow m start t (suc n) p ≡ None
+    follow-astray l h u = rw (away, follow, h, u)
+
+    pub follow-parent :
+      (l : Leg)
+      → m .leg (at t p .parent) (at t p .leg) ≡ Some l
+      → eqb (l .target) p ≡ true
+      → follow m start t (suc n) p ≡ extended (l .cost) p (follow m start t n (at t p .parent))
+    follow-parent l h u = rw (away, follow, h, u)
+
 module _ (m : Meaning) (sound : Sound m) (start : ℕ) (on : start < m .size) (t : List Record) where
-  -- What a step back from p makes of what is read from its parent, test by test.
-  abbrev back-target : Bool → Leg → ℕ → Option Trail → Option Trail
-  back-target true l p x = extended (l .cost) p x
-  back-target false l p x = None
-
-  abbrev back-leg : Option Leg → ℕ → Option Trail → Option Trail
-  back-leg None p x = None
-  back-leg (Some l) p x = back-target (eqb (l .target) p) l p x
-
-  abbrev back-start : Bool → ℕ → Option Trail → Option Trail
-  back-start true p x = Some (record { places = p ∷ []; cost = 0 })
-  back-start false p x = back-leg (m .leg (at t p .parent) (at t p .leg)) p x
-
-  abbrev back : ℕ → Option Trail → Option Trail
-  back p x = back-start (eqb p start) p x
-
-  follow-back : (n p : ℕ) → follow m start t (suc n) p ≡ back p (follow m start t n (at t p .parent))
-  follow-back n p = by-start (eqb p start)
-    where
-      x : Option Trail
-      x = follow m start t n (at t p .parent)
-
-      by-target : (l : Leg) (b : Bool) → _≡_ {A = Option Trail} (elim b [ true ↦ extended (l .cost) p x | false ↦ None ]) (back-target b l p x)
-      by-target l true = refl
-      by-target l false = refl
-
-      by-leg :
-          (o : Option Leg)
-          → _≡_ {A = Option Trail}
-          (elim o [ None ↦ None | Some l ↦ elim (eqb (l .target) p) [ true ↦ extended (l .cost) p x | false ↦ None ] ])
-          (back-leg o p x)
-      by-leg None = refl
-      by-leg (Some l) = by-target l (eqb (l .target) p)
-
-      by-start :
-          (b : Bool)
-          → _≡_ {A = Option Trail}
-          (elim b [
-            | true ↦ Some (record { places = p ∷ []; cost = 0 })
-            | false ↦
-                elim (m .leg (at t p .parent) (at t p .leg)) [
-                  | None ↦ None
-                  | Some l ↦ elim (eqb (l .target) p) [ true ↦ extended (l .cost) p x | false ↦ None ]
-                ]
-          ])
-          (back-start b p x)
-      by-start true = refl
-      by-start false = by-leg (m .leg (at t p .parent) (at t p .leg))
-
   -- It arrives at the start, or there is no usable leg from the parent to p, or the trail comes from the parent.
   data Back (p : ℕ) : Type 0 where
     arrives : p ≡ start → ((n : ℕ) → follow m start t (suc n) p ≡ Some (record { places = p ∷ []; cost = 0 })) → Back p
@@ -124,33 +94,18 @@ module _ (m : Meaning) (sound : Sound m) (start : ℕ) (on : start < m .size) (t
   way : (p : ℕ) → Back p
   way p = by-start (eqb p start) refl
     where
-      x : ℕ → Option Trail
-      x n = follow m start t n (at t p .parent)
-
       by-target : (l : Leg) → eqb p start ≡ false → m .leg (at t p .parent) (at t p .leg) ≡ Some l → (b : Bool) → eqb (l .target) p ≡ b → Back p
-      by-target l e h true u =
-          comes
-          (eqb-false p start e)
-          l
-          h
-          (eqb-true (l .target) p u)
-          (λ n. follow-back n p ∙ ap (λ b. back-start b p (x n)) e ∙ ap (λ o. back-leg o p (x n)) h ∙ ap (λ b. back-target b l p (x n)) u)
+      by-target l e h true u = comes (eqb-false p start e) l h (eqb-true (l .target) p u) (λ n. follow-parent m start t n p e l h u)
       by-target l e h false u =
           lost
-          (eqb-false p start e)
-          (λ d y z. let same : d ≡ l = cc in eqb-false (l .target) p u (ap (λ (l : Leg). l .target) (sym same) ∙ z))
-          (λ n. follow-back n p ∙ ap (λ b. back-start b p (x n)) e ∙ ap (λ o. back-leg o p (x n)) h ∙ ap (λ b. back-target b l p (x n)) u)
-
+            (eqb-false p start e)
+            (λ d y z. let same : d ≡ l = cc in eqb-false (l .target) p u (ap (λ (l : Leg). l .target) (sym same) ∙ z))
+            (λ n. follow-astray m start t n p e l h u)
       by-leg : eqb p start ≡ false → (o : Option Leg) → m .leg (at t p .parent) (at t p .leg) ≡ o → Back p
-      by-leg e None h =
-          lost
-          (eqb-false p start e)
-          (λ d y _. let z : _≡_ {A = ℕ} 0 1 = cc in omega arith)
-          (λ n. follow-back n p ∙ ap (λ b. back-start b p (x n)) e ∙ ap (λ o. back-leg o p (x n)) h)
+      by-leg e None h = lost (eqb-false p start e) (λ d y _. let z : _≡_ {A = ℕ} 0 1 = cc in omega arith) (λ n. follow-barred m start t n p e h)
       by-leg e (Some l) h = by-target l e h (eqb (l .target) p) refl
-
       by-start : (b : Bool) → eqb p start ≡ b → Back p
-      by-start true e = arrives (eqb-true p start e) (λ n. follow-back n p ∙ ap (λ b. back-start b p (x n)) e)
+      by-start true e = arrives (eqb-true p start e) (λ n. follow-arrives m start t n p e)
       by-start false e = by-leg e (m .leg (at t p .parent) (at t p .leg)) refl
 
   -- Whatever is read is a route from the start.

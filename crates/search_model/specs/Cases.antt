@@ -15,6 +15,7 @@ use Rattle.search_model.specs.declared.search.Search.{Search}
 use Rattle.search_model.specs.Records.{at}
 use Rattle.search_model.specs.Advance.{Answer, Barren, Settled, More, Outcome, going}
 use Rattle.search_model.specs.Begin.{first-records, first-search, rebounded}
+use Rattle.search_model.specs.Costs.{greatest-cost, most-expansions}
 use Rattle.search_model.specs.Read.{Trail, read-route}
 
 -- What a small floor is made from: its places, each with low, hope, steps, goal or not, and its legs.
@@ -62,16 +63,26 @@ six-places =
     ∷ spot 1 1 1 false (to 5 1 ∷ [])
     ∷ spot 0 0 0 true [] ∷ [])
 
--- The same with every leg into place 4 barred.
-abbrev pub four-shut : Guided
-four-shut =
-    floor-of-lists
-    (spot 4 6 3 false (to 1 2 ∷ to 2 1 ∷ [])
-    ∷ spot 4 5 2 false (to 3 2 ∷ [])
-    ∷ spot 3 8 2 false (to 3 5 ∷ None ∷ [])
-    ∷ spot 2 3 1 false (to 5 3 ∷ [])
-    ∷ spot 1 1 1 false (to 5 1 ∷ [])
-    ∷ spot 0 0 0 true [] ∷ [])
+-- A leg, barred if it leads to the place.
+abbrev pub unless-into : ℕ → Option Leg → Option Leg
+unless-into place None = None
+unless-into place (Some l) = cond (eqb (l .target) place) None (Some l)
+
+-- The same floor with every leg into a place barred.
+abbrev pub shut-at : ℕ → Guided → Guided
+shut-at place g =
+    record {
+      floor =
+        record {
+          size = g .floor .size;
+          count = g .floor .count;
+          leg = λ p k. unless-into place (g .floor .leg p k);
+          goal = g .floor .goal;
+          low = g .floor .low;
+        };
+      hope = g .hope;
+      steps = g .steps;
+    }
 
 -- Four places where a closed place is given a lesser label later, so that the route read costs less than the goal's label.
 abbrev pub four-places : Guided
@@ -118,6 +129,11 @@ route-after g o goal = read-route (g .floor) (o .search-after) (o .records) goal
 abbrev pub trail : List ℕ → ℕ → Option Trail
 trail places cost = Some (record { places = places; cost = cost })
 
+-- What the six places cost: K is 5, so no search on them makes more than 6 × (5 × 5 + 1) expansions.
+pub record SixPlaces : Type 0 where
+  pub greatest : greatest-cost (six-places .floor) ≡ 5
+  pub most : most-expansions (six-places .floor) ≡ 156
+
 -- The six places at 3/2.
 pub record ThreeHalves : Type 0 where
   pub run : summary (searched six-places (bound-of 3 2) 9) ≡ comes-to (Settled 5) (0 ∷ 2 ∷ 4 ∷ []) (Some 6) 3
@@ -137,8 +153,8 @@ pub record SevenQuarters : Type 0 where
 
 -- At 1/1 with place 4 shut.
 pub record FourShut : Type 0 where
-  pub run : searched four-shut (bound-of 1 1) 9 .places ≡ 0 ∷ 2 ∷ 1 ∷ 3 ∷ []
-  pub route : route-after four-shut (searched four-shut (bound-of 1 1) 9) 5 ≡ trail (0 ∷ 1 ∷ 3 ∷ 5 ∷ []) 7
+  pub run : searched (shut-at 4 six-places) (bound-of 1 1) 9 .places ≡ 0 ∷ 2 ∷ 1 ∷ 3 ∷ []
+  pub route : route-after (shut-at 4 six-places) (searched (shut-at 4 six-places) (bound-of 1 1) 9) 5 ≡ trail (0 ∷ 1 ∷ 3 ∷ 5 ∷ []) 7
 
 -- The four places at 10/1: the goal's label is 15 and its route costs 12.
 pub record FourPlaces : Type 0 where
@@ -155,6 +171,7 @@ pub record OnePlace : Type 0 where
 
 -- All of them.
 pub record WorkedCases : Type 0 where
+  pub six-places-cost : SixPlaces
   pub three-halves : ThreeHalves
   pub two-then-one : TwoThenOne
   pub seven-quarters : SevenQuarters

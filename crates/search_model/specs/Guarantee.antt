@@ -1,11 +1,12 @@
 -- What each answer of a search guarantees.
 use Prim.Native.Nat.{ℕ, _+_, _≤_, _<_}
-use mathlib.Core.Bool.{true}
+use mathlib.Core.Bool.{true, false}
 use mathlib.Core.List.{List, _∷_}
 use mathlib.Core.Path.{_≡_}
 use lib.ListN.{length}
 use Rattle.std.specs.declared.option.Option.{Option}
 use Rattle.std.specs.declared.option.Option.the-variants.{Some, None}
+use Rattle.std.specs.Options.{isSome}
 use Rattle.floors.specs.Meaning.{Meaning}
 use Rattle.floors.specs.Route.{Route, last}
 use Rattle.search_model.specs.declared.bound.Bound.{Bound}
@@ -33,11 +34,18 @@ AnswerLaw m start bound records Barren = NoRoute m start
 AnswerLaw m start bound records (Settled n) = SettledLaw m start bound records n
 AnswerLaw m start bound records More = Unit {0}
 
+-- The low mark is absent when barren.
+abbrev pub MarkLaw : Answer → Option ℕ → Type 0
+MarkLaw Barren mark = isSome mark ≡ false
+MarkLaw (Settled n) mark = isSome mark ≡ true
+MarkLaw More mark = isSome mark ≡ true
+
 -- An advance under a bound, with a total before it and a budget: its answer is right, its low mark is at most the cost of
--- every route, more comes only after the whole budget was expanded, and the total is exact and at most S × (K × (S − 1) + 1).
+-- every route to a goal, more comes only after the whole budget was expanded, and the total is exact and at most S × (K × (S − 1) + 1).
 pub record AdvanceLaw (m : Meaning) (start : ℕ) (bound : Bound) (total budget : ℕ) (o : Outcome) : Type 0 where
   pub answered : AnswerLaw m start bound (o .records) (o .answer)
-  pub marked : (mark : ℕ) → o .mark ≡ Some mark → (qs : List ℕ) (c : ℕ) → GoalRoute m start qs c → mark ≤ c
+  pub marked : MarkLaw (o .answer) (o .mark)
+  pub mark-below : (mark : ℕ) → o .mark ≡ Some mark → (qs : List ℕ) (c : ℕ) → GoalRoute m start qs c → mark ≤ c
   pub spent : o .answer ≡ More → expansions o ≡ budget
   pub affordable : expansions o ≤ budget
   pub exact : o .search-after .total ≡ total + expansions o

@@ -4,6 +4,7 @@ use Rattle.search_model.proofs.worked_cases.Needs as need
 pub returns : need.returns
 returns c =
     record {
+      six-places-cost = record { greatest = refl; most = refl };
       three-halves = record { run = refl; route = refl };
       two-then-one = record { run = refl; route = refl; then-run = refl; then-route = refl };
       seven-quarters = record { run = refl };
