@@ -1,12 +1,11 @@
 -- What a turn finds.
-use Prim.Native.Nat.{ℕ, _+_, _*_, _≤_, _<_}
-use mathlib.Core.Bool.{Bool, true, false, _&&_}
+use Prim.Native.Nat.{ℕ, _*_, _≤_}
+use mathlib.Core.Bool.{Bool, true, false}
 use mathlib.Core.List.{List}
 use mathlib.Core.Logic.{_⊎_, inl, inr, ⊎-elim}
-use mathlib.Core.Path.{_≡_, refl, sym, ap, _∙_, subst}
+use mathlib.Core.Path.{_≡_, refl, ap, _∙_, subst}
 use native.Mathlib.Nat.{mul-le-mul-left, mul-le-mul-right}
 use native.Mathlib.Omega.{arith}
-use lib.Dec.{eqb}
 use lib.ListN.{length}
 use Rattle.std.specs.Slices.{Ranks}
 use Rattle.std.specs.declared.option.Option.{Option}
@@ -18,9 +17,9 @@ use Rattle.floors.specs.Guided.{Guided}
 use Rattle.search_model.specs.declared.records.Record.{Record}
 use Rattle.search_model.specs.declared.search.Search.{Search}
 use Rattle.search_model.specs.Records.{at, is-open, f, f-hat, Open}
-use Rattle.search_model.specs.Choice.{least, by-key, low-place, hope-place, near-place, within, is-near, rank, nearer, if-within, choice}
+use Rattle.search_model.specs.Choice.{least, by-key, low-place, hope-place, near-place, within, is-near, nearer, if-within, choice}
 use Rattle.search_model.specs.Advance.{low-mark, Turn, nothing, goal, other, turn, turn-at}
-use Rattle.search_model.proofs.Least.{Least, least-found, least-missing}
+use Rattle.search_model.proofs.Least.{least-found, least-missing}
 use Rattle.search_model.proofs.Table.{seen-on}
 
 -- The order by a key, and that of the near places, are orders.

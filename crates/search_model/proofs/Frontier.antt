@@ -1,25 +1,23 @@
 -- On every route there is an open place that the search has reached as cheaply as the route does.
 use Prim.Native.Nat.{ℕ, _+_, _*_, _≤_, _<_}
-use mathlib.Core.Bool.{true, false}
 use mathlib.Core.List.{List, [], _∷_}
 use mathlib.Core.Logic.{⊎-elim}
-use mathlib.Core.Path.{_≡_, refl, sym, ap, subst, _∙_}
+use mathlib.Core.Path.{_≡_, refl, ap, subst, _∙_}
 use native.Mathlib.Nat.{mul-le-mul-left}
 use native.Mathlib.Omega.{arith}
 use lib.ListN.{length}
-use Rattle.std.specs.declared.option.Option.the-variants.{Some, None}
+use Rattle.std.specs.declared.option.Option.the-variants.{Some}
 use Rattle.std.proofs.shelf.Tests.{cases-eq, both-ways}
-use Rattle.floors.specs.declared.leg.Leg.{Leg}
 use Rattle.floors.specs.Meaning.{Meaning}
 use Rattle.floors.specs.Route.{Route, last, alone, onward}
 use Rattle.floors.specs.Guided.{Guided, SoundGuided}
 use Rattle.search_model.specs.declared.records.Record.{Record}
 use Rattle.search_model.specs.declared.search.Search.{Search}
-use Rattle.search_model.specs.Records.{at, f, f-hat, Seen, Open, Closed}
+use Rattle.search_model.specs.Records.{at, f, Seen, Open, Closed}
 use Rattle.search_model.specs.Advance.{low-mark}
 use Rattle.search_model.specs.Costs.{GoalRoute, Bounded}
 use Rattle.search_model.proofs.Table.{seen-on}
-use Rattle.search_model.proofs.Chosen.{LowMark, low-mark-some, Picked, Chosen, picked-chosen}
+use Rattle.search_model.proofs.Chosen.{low-mark-some, Picked, Chosen, picked-chosen}
 use Rattle.search_model.proofs.Invariant.{Relaxed, Estimates, Inv}
 use Rattle.search_model.proofs.Reached.{Reached}
 

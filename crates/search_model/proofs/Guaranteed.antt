@@ -1,13 +1,11 @@
 -- Every event of a run has its guarantee.
-use Prim.Native.Nat.{ℕ, _+_, _*_, _≤_, _<_}
-use mathlib.Core.Bool.{true, false}
-use mathlib.Core.List.{List, [], _∷_}
+use Prim.Native.Nat.{ℕ, _*_, _≤_, _<_}
+use mathlib.Core.Bool.{true}
+use mathlib.Core.List.{List}
 use mathlib.Core.Path.{_≡_, refl, sym, ap, subst, _∙_}
 use native.Mathlib.Nat.{mul-le-mul-left}
 use native.Mathlib.Omega.{arith}
-use Rattle.std.specs.declared.option.Option.{Option}
-use Rattle.std.specs.declared.option.Option.the-variants.{Some, None}
-use Rattle.floors.specs.Route.{Route, last}
+use Rattle.std.specs.declared.option.Option.the-variants.{Some}
 use Rattle.floors.specs.Guided.{Guided, SoundGuided}
 use Rattle.search_model.specs.declared.bound.Bound.{Bound}
 use Rattle.search_model.specs.declared.records.Record.{Record}
@@ -15,10 +13,10 @@ use Rattle.search_model.specs.declared.search.Search.{Search}
 use Rattle.search_model.specs.Records.{at, Seen}
 use Rattle.search_model.specs.Advance.{Answer, Barren, Settled, More, Outcome, low-mark, going}
 use Rattle.search_model.specs.Begin.{rebounded}
-use Rattle.search_model.specs.Read.{Trail, follow, read-route}
+use Rattle.search_model.specs.Read.{follow, read-route}
 use Rattle.search_model.specs.Costs.{GoalRoute, ValidBound, most-expansions}
-use Rattle.search_model.specs.Guarantee.{SettledLaw, AnswerLaw, MarkLaw, AdvanceLaw, RouteLaw, ReadLaw}
-use Rattle.search_model.specs.Run.{State, running, settled, barren, left-by, Event, advanced, bound-set, route-read, Run, done, advance, rebound-running, rebound-settled, read, Guaranteed, Guarantee}
+use Rattle.search_model.specs.Guarantee.{SettledLaw, AnswerLaw, MarkLaw, AdvanceLaw, ReadLaw}
+use Rattle.search_model.specs.Run.{State, running, settled, barren, left-by, Event, Run, done, advance, rebound-running, rebound-settled, read, Guaranteed, Guarantee}
 use Rattle.search_model.proofs.Table.{seen-on}
 use Rattle.search_model.proofs.Chosen.{Picked}
 use Rattle.search_model.proofs.Heads.{low-none}
@@ -26,7 +24,7 @@ use Rattle.search_model.proofs.Rules.{AnswerSays, Ended}
 use Rattle.search_model.proofs.Costs.{most-expansions-below}
 use Rattle.search_model.proofs.Reached.{Reached, ReachedFrom, begin-reaches, advance-reaches, rebound-reaches}
 use Rattle.search_model.proofs.Frontier.{barren-no-route, low-mark-below, chosen-bounded, reached-chosen}
-use Rattle.search_model.proofs.Trails.{TrailTo, Readable, chain-readable}
+use Rattle.search_model.proofs.Trails.{Readable, chain-readable}
 
 -- A reached state of a search from a start, under a bound and with a total.
 pub record Standing (g : Guided) (start : ℕ) (bound : Bound) (total : ℕ) (s : Search) (t : List Record) : Type 0 where
@@ -50,7 +48,7 @@ module _ (g : Guided) (sound : SoundGuided g) where
       (h .invariant .chains n seen)
 
   -- A goal that is picked is settled.
-  settled-law : (s : Search) (t : List Record) (n : ℕ) → Reached g s t → Picked g s t n true → SettledLaw (g .floor) (s .start) (s .bound) t n
+  pub settled-law : (s : Search) (t : List Record) (n : ℕ) → Reached g s t → Picked g s t n true → SettledLaw (g .floor) (s .start) (s .bound) t n
   settled-law s t n h p =
       let seen : Seen t n = omega (arith, p .opened) in
       let r : Readable (g .floor) (s .start) t n = readable s t n h seen in
@@ -72,7 +70,7 @@ module _ (g : Guided) (sound : SoundGuided g) where
         reachable = (r .to .rest, r .trail .cost, r .to .route, r .to .ends);
       }
 
-  answer-law : (s : Search) (t : List Record) (a : Answer) → Reached g s t → AnswerSays g s t a → AnswerLaw (g .floor) (s .start) (s .bound) t a
+  pub answer-law : (s : Search) (t : List Record) (a : Answer) → Reached g s t → AnswerSays g s t a → AnswerLaw (g .floor) (s .start) (s .bound) t a
   answer-law s t Barren h says = barren-no-route g sound (s .start) t (h .invariant) says
   answer-law s t (Settled n) h says = settled-law s t n h says
   answer-law s t More h says = tt
@@ -83,7 +81,7 @@ module _ (g : Guided) (sound : SoundGuided g) where
   mark-law s t More says = rw (says .1 .marked)
 
   -- What is read of a settled goal.
-  read-law : (s : Search) (t : List Record) (n : ℕ) → Reached g s t → SettledLaw (g .floor) (s .start) (s .bound) t n → ReadLaw (g .floor) (s .start) (s .bound) n (read-route (g .floor) s t n)
+  pub read-law : (s : Search) (t : List Record) (n : ℕ) → Reached g s t → SettledLaw (g .floor) (s .start) (s .bound) t n → ReadLaw (g .floor) (s .start) (s .bound) n (read-route (g .floor) s t n)
   read-law s t n h law =
       let r : Readable (g .floor) (s .start) t n = readable s t n h (law .seen) in
       let is : read-route (g .floor) s t n ≡ Some (r .trail) = ap (λ x. follow (g .floor) (s .start) t x n) (h .size) ∙ r .is in
@@ -104,14 +102,14 @@ module _ (g : Guided) (sound : SoundGuided g) where
       })
 
 -- What holds of a state: a reached one, and of a settled one its law.
-abbrev Good : Guided → ℕ → Bound → ℕ → State → Type 0
+abbrev pub Good : Guided → ℕ → Bound → ℕ → State → Type 0
 Good g start bound total (running s t) = Standing g start bound total s t
 Good g start bound total (settled n s t) = Standing g start bound total s t × SettledLaw (g .floor) start bound t n
 Good g start bound total barren = Unit {0}
 
 module _ (g : Guided) (sound : SoundGuided g) (start : ℕ) where
   -- The law at the start and the bound of a standing search.
-  standing-law :
+  pub standing-law :
       {bound : Bound} {total : ℕ} {s : Search} {t : List Record}
       → Standing g start bound total s t
       → (Law : ℕ → Bound → Type 0)
@@ -119,7 +117,7 @@ module _ (g : Guided) (sound : SoundGuided g) (start : ℕ) where
       → Law start bound
   standing-law {bound} {s = s} st Law law = subst (λ b. Law start b) (st .bound-is) (subst (λ x. Law x (s .bound)) (st .start-is) law)
 
-  standing-back :
+  pub standing-back :
       {bound : Bound} {total : ℕ} {s : Search} {t : List Record}
       → Standing g start bound total s t
       → (Law : ℕ → Bound → Type 0)
@@ -127,7 +125,7 @@ module _ (g : Guided) (sound : SoundGuided g) (start : ℕ) where
       → Law (s .start) (s .bound)
   standing-back {bound} {s = s} st Law law = subst (λ b. Law (s .start) b) (sym (st .bound-is)) (subst (λ x. Law x bound) (sym (st .start-is)) law)
 
-  rebound-good :
+  pub rebound-good :
       {old : Bound} {total : ℕ} (s : Search) (t : List Record) (bound : Bound)
       → Standing g start old total s t
       → ValidBound bound
@@ -135,7 +133,7 @@ module _ (g : Guided) (sound : SoundGuided g) (start : ℕ) where
   rebound-good s t bound st valid =
       record { reached = rebound-reaches g sound s t bound valid (st .reached); start-is = st .start-is; bound-is = refl; total-is = st .total-is }
 
-  after-advance :
+  pub after-advance :
       (bound : Bound) (total budget : ℕ) (s : Search) (t : List Record)
       → Standing g start bound total s t
       → Ended g (ReachedFrom g s) 0 budget (going g budget s t)
@@ -148,7 +146,7 @@ module _ (g : Guided) (sound : SoundGuided g) (start : ℕ) where
         total-is = refl;
       }
 
-  left-good : (bound : Bound) (total : ℕ) (s : Search) (t : List Record) (a : Answer) → Standing g start bound total s t → AnswerLaw (g .floor) start bound t a → Good g start bound total (left-by a s t)
+  pub left-good : (bound : Bound) (total : ℕ) (s : Search) (t : List Record) (a : Answer) → Standing g start bound total s t → AnswerLaw (g .floor) start bound t a → Good g start bound total (left-by a s t)
   left-good bound total s t Barren st law = tt
   left-good bound total s t (Settled n) st law = (st, law)
   left-good bound total s t More st law = st
@@ -167,7 +165,7 @@ module _ (g : Guided) (sound : SoundGuided g) (start : ℕ) where
             (λ x b. AnswerLaw (g .floor) x b (going g budget s t .records) (going g budget s t .answer))
             (answer-law g sound (going g budget s t .search-after) (going g budget s t .records) (going g budget s t .answer) (e .holds .reached) (e .says));
         marked =
-          subst
+            subst
             (MarkLaw (going g budget s t .answer))
             (sym (e .marked))
             (mark-law g sound (going g budget s t .search-after) (going g budget s t .records) (going g budget s t .answer) (e .says));
@@ -184,7 +182,7 @@ module _ (g : Guided) (sound : SoundGuided g) (start : ℕ) where
         uncapped = omega (arith, most-expansions-below (g .floor) (sound .floor));
       }
 
-  run-guaranteed : {z y : State} {es : List Event} → Run g z es y → (bound : Bound) (total : ℕ) → Good g start bound total z → Guaranteed (g .floor) start bound total es
+  pub run-guaranteed : {z y : State} {es : List Event} → Run g z es y → (bound : Bound) (total : ℕ) → Good g start bound total z → Guaranteed (g .floor) start bound total es
   run-guaranteed done bound total h = tt
   run-guaranteed (advance budget s t o is run) bound total h =
       let law : AdvanceLaw (g .floor) start bound total budget (going g budget s t) = advance-law bound total budget s t h in

@@ -6,7 +6,6 @@ use mathlib.Core.Logic.{_⊎_, inl, inr, ⊎-elim}
 use mathlib.Core.Path.{_≡_, refl, _∙_, ap}
 use native.Mathlib.Nat.{mul-le-mul-left}
 use native.Mathlib.Omega.{arith}
-use lib.Dec.{leb}
 use lib.ListN.{length}
 use Rattle.std.specs.declared.option.Option.{Option}
 use Rattle.std.specs.declared.option.Option.the-variants.{Some, None}
@@ -16,9 +15,9 @@ use Rattle.search_model.specs.declared.records.Record.{Record}
 use Rattle.search_model.specs.declared.search.Search.{Search}
 use Rattle.search_model.specs.Records.{at, is-open, f, f-hat, Open}
 use Rattle.search_model.specs.Choice.{least, by-key, low-place, hope-place, near-place, within, is-near, rank, nearer, if-within, choice}
-use Rattle.search_model.proofs.Least.{least-is, least-none, least-found}
+use Rattle.search_model.proofs.Least.{least-is, least-none}
 use Rattle.search_model.proofs.Table.{seen-on}
-use Rattle.search_model.proofs.Chosen.{by-key-ranks, near-ranks, near-open, head-open, head-least, head-missing}
+use Rattle.search_model.proofs.Chosen.{by-key-ranks, near-ranks, near-open, head-least, head-missing}
 
 -- Key x at p comes before key y at q, or ties at a number that is not higher.
 abbrev pub Before : ℕ → ℕ → ℕ → ℕ → Type 0
@@ -136,12 +135,12 @@ module _ (s : Search) (mark : ℕ) (t : List Record) where
   past-near p n w = ap (λ x. if-within s mark t x (hope-or-low (hope-place t))) n ∙ if-within-no p (hope-or-low (hope-place t)) w
 
   pub choice-hope :
-    (p h : ℕ)
-    → near-place s t ≡ Some p
-    → within s mark (at t p) ≡ false
-    → hope-place t ≡ Some h
-    → within s mark (at t h) ≡ true
-    → choice s mark t ≡ Some h
+      (p h : ℕ)
+      → near-place s t ≡ Some p
+      → within s mark (at t p) ≡ false
+      → hope-place t ≡ Some h
+      → within s mark (at t h) ≡ true
+      → choice s mark t ≡ Some h
   choice-hope p h n out e w = past-near p n out ∙ ap hope-or-low e ∙ if-within-yes h (low-place t) w
 
   -- Where hope is not within the mark near is not either, and need not be looked at.
@@ -153,6 +152,7 @@ module _ (s : Search) (mark : ℕ) (t : List Record) where
           let over : s .bound .a * mark < s .bound .b * f-hat (at t h) = leb-false (s .bound .b * f-hat (at t h)) (s .bound .a * mark) out in
           let more : s .bound .b * f-hat (at t h) ≤ s .bound .b * f-hat (at t p) = mul-le-mul-left (s .bound .b) (hope-before-near s t h p e n) in
           lt-leb (s .bound .b * f-hat (at t p)) (s .bound .a * mark) (omega arith)
+
       by : (x : Option ℕ) → near-place s t ≡ x → choice s mark t ≡ hope-or-low (hope-place t)
       by None n = ap (λ x. if-within s mark t x (hope-or-low (hope-place t))) n
       by (Some p) n = past-near p n (farther p n)

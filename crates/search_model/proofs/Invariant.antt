@@ -1,13 +1,12 @@
 -- What holds of the records of a search at every leg that it takes.
-use Prim.Native.Nat.{ℕ, zero, suc, _+_, _-_, _*_, _≤_, _<_, min, max}
-use mathlib.Core.Bool.{true, false}
+use Prim.Native.Nat.{ℕ, suc, _+_, _*_, _≤_, _<_, min, max}
+use mathlib.Core.Bool.{false}
 use mathlib.Core.List.{List}
-use mathlib.Core.Logic.{_⊎_, inl, inr, ⊎-elim}
-use mathlib.Core.Path.{_≡_, refl, sym, ap, subst, _∙_}
-use native.Mathlib.Nat.{mul-suc, mul-le-mul-left, mul-one}
+use mathlib.Core.Logic.{⊎-elim}
+use mathlib.Core.Path.{_≡_, sym, ap, subst, _∙_}
+use native.Mathlib.Nat.{mul-suc, mul-le-mul-left}
 use native.Mathlib.Omega.{arith}
 use lib.ListN.{length, set}
-use Rattle.std.specs.declared.option.Option.{Option}
 use Rattle.std.specs.declared.option.Option.the-variants.{Some, None}
 use Rattle.std.specs.shelf.Lists.{sumBy}
 use Rattle.std.proofs.shelf.Elements.{all-from-getD}
@@ -18,12 +17,11 @@ use Rattle.floors.specs.Meaning.{Meaning}
 use Rattle.floors.specs.Guided.{Guided, SoundGuided}
 use Rattle.floors.specs.Sound.{limit}
 use Rattle.search_model.specs.declared.records.Record.{Record}
-use Rattle.search_model.specs.Records.{blank, at, Seen, Open, Closed}
-use Rattle.search_model.specs.Expansion.{takes, closed}
-use Rattle.search_model.specs.Ending.{potential}
+use Rattle.search_model.specs.Records.{blank, at, Seen, Closed}
+use Rattle.search_model.specs.Expansion.{takes}
 use Rattle.search_model.specs.Costs.{greatest-cost, greatest-label}
-use Rattle.search_model.proofs.Table.{Changed, changed, changed-at, seen-on}
-use Rattle.search_model.proofs.Labels.{takes-false, Given, given-record, offered-label}
+use Rattle.search_model.proofs.Table.{Changed, changed}
+use Rattle.search_model.proofs.Labels.{takes-false, given-record, offered-label}
 use Rattle.search_model.proofs.Costs.{leg-number, cost-below, greatest-label-and, greatest-label-below}
 
 -- How many places are seen.

@@ -14,7 +14,7 @@ use Rattle.search_model.specs.Begin.{first-records}
 use Rattle.search_model.specs.Fields.{SeenLimits, RecordLimits, Proper, LimitsKept}
 use Rattle.search_model.proofs.Table.{changed-keeps, begun-keeps, begun-sized}
 use Rattle.search_model.proofs.Labels.{Given, given-label, given-record, offered-label, closing}
-use Rattle.search_model.proofs.Rules.{Kept, spread-rule, KeptByExpansion, going-rule}
+use Rattle.search_model.proofs.Rules.{Kept, spread-rule, going-rule}
 
 module _ (g : Guided) (sound : SoundGuided g) where
   -- A label within the limit makes a record within its limits.
@@ -32,7 +32,7 @@ module _ (g : Guided) (sound : SoundGuided g) where
       record {
         sized = begun-sized g start on;
         limits =
-          begun-keeps g start on RecordLimits (labelled-limits start 0 start 0 (omega arith)) (record { mark = omega arith; seen = λ h. absurd (omega arith) });
+            begun-keeps g start on RecordLimits (labelled-limits start 0 start 0 (omega arith)) (record { mark = omega arith; seen = λ h. absurd (omega arith) });
       }
 
   legs-proper : (n : ℕ) → Kept g n (λ k t. Proper g t)
@@ -55,13 +55,13 @@ module _ (g : Guided) (sound : SoundGuided g) where
       record {
         sized = closing t n o .sized ∙ p .sized;
         limits =
-          λ q.
+            λ q.
             changed-keeps
-              (closing t n o)
-              RecordLimits
-              (record { mark = omega arith; seen = λ _. record { label = r .label; low = r .low; hope = r .hope; steps = r .steps } })
-              q
-              (p .limits q);
+            (closing t n o)
+            RecordLimits
+            (record { mark = omega arith; seen = λ _. record { label = r .label; low = r .low; hope = r .hope; steps = r .steps } })
+            q
+            (p .limits q);
       }
 
   pub expanded-proper : (n : ℕ) (t : List Record) → Open t n → Proper g t → Proper g (expanded g n t)

@@ -1,7 +1,7 @@
 -- A place that is given a label never raises the potential, and a place that is closed lowers it by one.
 use Prim.Native.Nat.{ℕ, zero, suc, _+_, _*_, _≤_, _<_}
 use mathlib.Core.List.{List}
-use mathlib.Core.Logic.{_⊎_, inl, inr, ⊎-elim}
+use mathlib.Core.Logic.{_⊎_, ⊎-elim}
 use mathlib.Core.Path.{_≡_, refl, subst, _∙_}
 use native.Mathlib.Nat.{le-refl}
 use native.Mathlib.Omega.{arith}
@@ -16,12 +16,11 @@ use Rattle.search_model.specs.declared.records.Record.{Record}
 use Rattle.search_model.specs.declared.search.Search.{Search}
 use Rattle.search_model.specs.Records.{blank, at, Open}
 use Rattle.search_model.specs.Expansion.{closed, expanded}
-use Rattle.search_model.specs.Advance.{Outcome, expansions, going}
-use Rattle.search_model.specs.Fields.{SeenLimits, RecordLimits, Proper}
+use Rattle.search_model.specs.Advance.{going}
+use Rattle.search_model.specs.Fields.{SeenLimits, RecordLimits}
 use Rattle.search_model.specs.Ending.{weight-of, weight, potential, Progress, Ending}
 use Rattle.search_model.proofs.Table.{Changed}
 use Rattle.search_model.proofs.Labels.{weight-unseen, weight-open, weight-closed, weight-seen, Given, given-label, given-record, closing}
-use Rattle.search_model.proofs.Chosen.{Picked}
 use Rattle.search_model.proofs.Rules.{Kept, spread-rule, Ended, KeptByExpansion, going-rule}
 
 -- A label given to a place, which an unseen place must outweigh.
@@ -117,15 +116,15 @@ weight-below r h = by (r .mark) (h .seen)
 progress : (g : Guided) (budget : ℕ) (s : Search) (t : List Record) → SoundGuided g → length t ≡ g .floor .size → Progress g budget s t
 progress g budget s t sound sized =
     let e : Ended g (FallenBy g sound (potential (limit + 1) t)) 0 budget (going g budget s t) =
-      going-rule
-        g
-        (FallenBy g sound (potential (limit + 1) t))
-        (expansion-falls g sound (potential (limit + 1) t))
-        budget
-        0
-        s
-        t
-        (record { sized = sized; below = omega arith }) in
+    going-rule
+    g
+    (FallenBy g sound (potential (limit + 1) t))
+    (expansion-falls g sound (potential (limit + 1) t))
+    budget
+    0
+    s
+    t
+    (record { sized = sized; below = omega arith }) in
     record { falls = omega (arith, e .holds .below); spent = e .spent; affordable = e .affordable }
 
 pub ending : Ending
@@ -133,12 +132,12 @@ ending =
     record {
       progress = progress;
       ends =
-        λ g budget s t sound proper above more.
+          λ g budget s t sound proper above more.
           let h : Progress g budget s t = progress g budget s t sound (proper .sized) in
           let all : potential (limit + 1) t ≤ g .floor .size * (limit + 1) =
-            subst
-              (λ n. potential (limit + 1) t ≤ n * (limit + 1))
-              (proper .sized)
-              (potential-below (limit + 1) t (λ p. weight-below (at t p) (proper .limits p))) in
+          subst
+          (λ n. potential (limit + 1) t ≤ n * (limit + 1))
+          (proper .sized)
+          (potential-below (limit + 1) t (λ p. weight-below (at t p) (proper .limits p))) in
           omega (arith, h .falls, h .spent more);
     }

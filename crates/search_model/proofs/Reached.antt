@@ -1,33 +1,29 @@
 -- The states that a search reaches from its begin.
-use Prim.Native.Nat.{ℕ, zero, suc, _+_, _-_, _*_, _≤_, _<_, min}
-use mathlib.Core.Bool.{true, false}
+use Prim.Native.Nat.{ℕ, suc, _+_, _*_, _≤_, _<_, min}
 use mathlib.Core.List.{List}
 use mathlib.Core.Logic.{_⊎_, inl, inr, ⊎-elim}
 use mathlib.Core.Path.{_≡_, refl, sym, ap, subst, _∙_}
 use native.Mathlib.Nat.{le-refl, mul-le-mul-left}
 use native.Mathlib.Omega.{arith}
-use lib.ListN.{length, set, replicate, length-replicate, getD-replicate}
-use Rattle.std.specs.declared.option.Option.the-variants.{Some, None}
-use Rattle.std.proofs.shelf.Lists.{getD-past}
-use Rattle.std.proofs.shelf.Tests.{cases-lt}
+use lib.ListN.{set, replicate}
+use Rattle.std.specs.declared.option.Option.the-variants.{Some}
 use Rattle.floors.specs.declared.leg.Leg.{Leg}
 use Rattle.floors.specs.Guided.{Guided, SoundGuided}
 use Rattle.search_model.specs.declared.bound.Bound.{Bound}
 use Rattle.search_model.specs.declared.records.Record.{Record}
 use Rattle.search_model.specs.declared.search.Search.{Search}
-use Rattle.search_model.specs.Records.{blank, at, Seen, Open, Closed}
-use Rattle.search_model.specs.Expansion.{labelled, takes, closed, expanded, counted, greatest-total}
-use Rattle.search_model.specs.Advance.{Outcome, expansions, going}
+use Rattle.search_model.specs.Records.{blank, at, Seen, Closed}
+use Rattle.search_model.specs.Expansion.{labelled, closed, expanded, greatest-total}
+use Rattle.search_model.specs.Advance.{going}
 use Rattle.search_model.specs.Begin.{first-records, first-search, rebounded}
 use Rattle.search_model.specs.Ending.{weight, potential}
 use Rattle.search_model.specs.Costs.{greatest-cost, greatest-label, most-expansions, ValidBound}
 use Rattle.search_model.proofs.Table.{Changed, changed-at, blank-at, begun, begun-keeps, begun-sized}
 use Rattle.search_model.proofs.Labels.{Given, given-label, given-record, offered-label, closing}
 use Rattle.search_model.proofs.Potential.{potential-below, given-potential, closed-potential}
-use Rattle.search_model.proofs.Chosen.{Picked}
 use Rattle.search_model.proofs.Rules.{Kept, spread-rule, Ended, KeptByExpansion, going-rule}
 use Rattle.search_model.proofs.Costs.{most-expansions-below}
-use Rattle.search_model.proofs.Invariant.{seen-one, seen-count, Chain, root, Relaxed, Estimates, Inv, fresh-small, barred-step, passed-step, finished}
+use Rattle.search_model.proofs.Invariant.{seen-one, seen-count, root, Estimates, Inv, fresh-small, barred-step, passed-step, finished}
 use Rattle.search_model.proofs.Steps.{given-step, closing-step, closing-seen, still-seen}
 
 -- The potential where an unseen place weighs more than any label that the search gives.
@@ -152,18 +148,18 @@ module _ (g : Guided) (sound : SoundGuided g) (start : ℕ) (on : start < g .flo
   begun-remaining : remaining g (first-records g start) ≤ most-expansions (g .floor)
   begun-remaining =
       subst
-        (λ n. remaining g (first-records g start) ≤ n * (greatest-label (g .floor) + 1))
-        (begun-sized g start on)
-        (potential-below
-           (greatest-label (g .floor) + 1)
-           (first-records g start)
-           (begun-keeps
-              g
-              start
-              on
-              (λ r. weight (greatest-label (g .floor) + 1) r ≤ greatest-label (g .floor) + 1)
-              (omega arith)
-              (le-refl (greatest-label (g .floor) + 1))))
+      (λ n. remaining g (first-records g start) ≤ n * (greatest-label (g .floor) + 1))
+      (begun-sized g start on)
+      (potential-below
+      (greatest-label (g .floor) + 1)
+      (first-records g start)
+      (begun-keeps
+      g
+      start
+      on
+      (λ r. weight (greatest-label (g .floor) + 1) r ≤ greatest-label (g .floor) + 1)
+      (omega arith)
+      (le-refl (greatest-label (g .floor) + 1))))
 
   -- A begin with a valid bound reaches.
   pub begin-reaches : (bound : Bound) → ValidBound bound → Reached g (first-search g start bound) (first-records g start)

@@ -1,9 +1,9 @@
 -- What is kept by each leg is kept by all of them, and what is kept by each expansion is kept by an advance.
 use Prim.Native.Nat.{ℕ, zero, suc, _+_, _≤_}
 use mathlib.Core.Bool.{Bool, true, false}
-use mathlib.Core.List.{List, [], _∷_}
+use mathlib.Core.List.{List}
 use mathlib.Core.Path.{_≡_, refl, sym, ap, subst}
-use native.Mathlib.Nat.{add-zero, add-suc, suc-add}
+use native.Mathlib.Nat.{add-zero}
 use native.Mathlib.Omega.{arith}
 use lib.ListN.{set}
 use Rattle.std.specs.declared.option.Option.{Option}
@@ -13,7 +13,7 @@ use Rattle.floors.specs.Guided.{Guided}
 use Rattle.search_model.specs.declared.records.Record.{Record}
 use Rattle.search_model.specs.declared.search.Search.{Search}
 use Rattle.search_model.specs.Records.{at}
-use Rattle.search_model.specs.Expansion.{labelled, takes, offer, along, spread, expanded, counted}
+use Rattle.search_model.specs.Expansion.{labelled, takes, offer, spread, expanded, counted}
 use Rattle.search_model.specs.Advance.{Answer, Barren, Settled, More, Outcome, expansions, low-mark, Turn, nothing, goal, other, turn, stop, after, going}
 use Rattle.search_model.proofs.Chosen.{Picked, TurnSays, turn-says}
 

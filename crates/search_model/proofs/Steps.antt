@@ -1,13 +1,13 @@
 -- The invariant is kept where a label is given and where a place is closed.
-use Prim.Native.Nat.{ℕ, zero, suc, _+_, _-_, _*_, _≤_, _<_, min, max}
-use mathlib.Core.Bool.{true, false}
+use Prim.Native.Nat.{ℕ, suc, _+_, _*_, _≤_, _<_, min}
+use mathlib.Core.Bool.{false}
 use mathlib.Core.List.{List}
-use mathlib.Core.Logic.{_⊎_, inl, inr, ⊎-elim}
+use mathlib.Core.Logic.{_⊎_, ⊎-elim}
 use mathlib.Core.Path.{_≡_, refl, sym, ap, subst, _∙_}
-use native.Mathlib.Nat.{mul-suc, mul-le-mul-left}
+use native.Mathlib.Nat.{mul-le-mul-left}
 use native.Mathlib.Omega.{arith}
-use lib.ListN.{length, set}
-use Rattle.std.specs.declared.option.Option.the-variants.{Some, None}
+use lib.ListN.{length}
+use Rattle.std.specs.declared.option.Option.the-variants.{Some}
 use Rattle.std.proofs.shelf.Tests.{cases-eq}
 use Rattle.floors.specs.declared.leg.Leg.{Leg}
 use Rattle.floors.specs.Guided.{Guided, SoundGuided}
@@ -16,7 +16,7 @@ use Rattle.search_model.specs.Records.{at, Seen, Open, Closed}
 use Rattle.search_model.specs.Expansion.{closed}
 use Rattle.search_model.specs.Costs.{greatest-cost}
 use Rattle.search_model.proofs.Table.{Changed, changed-at, changed-keeps, seen-on}
-use Rattle.search_model.proofs.Labels.{Given, given-record, offered-label}
+use Rattle.search_model.proofs.Labels.{given-record, offered-label}
 use Rattle.search_model.proofs.Invariant.{seen-one, seen-count, Chain, root, link, Relaxed, AllRelaxed, Estimates, Inv, fresh-room, relaxed-more}
 
 -- A label is given: leg l, number k, of n leads to q, and u is t with the new record r of q.

@@ -40,13 +40,13 @@ changed-at {q = q} {u = u} c p = ⊎-elim (λ e. inl (e, ap (at u) e ∙ c .here
 
 -- What holds of the new record and of the old record of p holds of p's record now.
 pub changed-keeps :
-  {t : List Record} {q : ℕ} {r : Record} {u : List Record}
-  → Changed t q r u
-  → (P : Record → Type 0)
-  → P r
-  → (p : ℕ)
-  → P (at t p)
-  → P (at u p)
+    {t : List Record} {q : ℕ} {r : Record} {u : List Record}
+    → Changed t q r u
+    → (P : Record → Type 0)
+    → P r
+    → (p : ℕ)
+    → P (at t p)
+    → P (at u p)
 changed-keeps c P new p old = ⊎-elim (λ x. subst P (sym (x .1)) new) (λ x. subst P (sym (x .1)) old) (changed-at c p)
 
 -- A place that is seen is on the table.
@@ -60,26 +60,26 @@ seen-on t p h = ⊎-elim (λ l. l) (λ l. off (ap (λ (r : Record). r .mark) (ge
 pub blank-at : (n p : ℕ) → at (replicate n blank) p ≡ blank
 blank-at n p =
     ⊎-elim
-      (λ l. getD-replicate n p blank blank l)
-      (λ l. getD-past (replicate n blank) p blank (subst (λ x. x ≤ p) (sym (length-replicate n blank)) l))
-      (cases-lt p n)
+    (λ l. getD-replicate n p blank blank l)
+    (λ l. getD-past (replicate n blank) p blank (subst (λ x. x ≤ p) (sym (length-replicate n blank)) l))
+    (cases-lt p n)
 
 pub begun :
-  (g : Guided) (start : ℕ)
-  → start < g .floor .size
-  → Changed (replicate (g .floor .size) blank) start (labelled g start 0 start 0) (first-records g start)
+    (g : Guided) (start : ℕ)
+    → start < g .floor .size
+    → Changed (replicate (g .floor .size) blank) start (labelled g start 0 start 0) (first-records g start)
 begun g start on =
     changed (replicate (g .floor .size) blank) start (labelled g start 0 start 0) (subst (λ x. start < x) (sym (length-replicate (g .floor .size) blank)) on)
 
 -- What holds of the start's record and of a blank one holds of every record.
 pub begun-keeps :
-  (g : Guided) (start : ℕ)
-  → start < g .floor .size
-  → (P : Record → Type 0)
-  → P (labelled g start 0 start 0)
-  → P blank
-  → (p : ℕ)
-  → P (at (first-records g start) p)
+    (g : Guided) (start : ℕ)
+    → start < g .floor .size
+    → (P : Record → Type 0)
+    → P (labelled g start 0 start 0)
+    → P blank
+    → (p : ℕ)
+    → P (at (first-records g start) p)
 begun-keeps g start on P first rest p = changed-keeps (begun g start on) P first p (subst P (sym (blank-at (g .floor .size) p)) rest)
 
 pub begun-sized : (g : Guided) (start : ℕ) → start < g .floor .size → length (first-records g start) ≡ g .floor .size

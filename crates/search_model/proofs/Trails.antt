@@ -2,7 +2,6 @@
 use Prim.Native.Nat.{ℕ, zero, suc, _+_, _-_, _≤_, _<_}
 use mathlib.Core.Bool.{Bool, true, false}
 use mathlib.Core.List.{List, [], _∷_, _++_}
-use mathlib.Core.Logic.{_⊎_, inl, inr, ⊎-elim}
 use mathlib.Core.Path.{_≡_, refl, sym, ap, subst, _∙_}
 use native.Mathlib.Nat.{zero-add, suc-add}
 use native.Mathlib.Omega.{arith}
@@ -10,13 +9,13 @@ use lib.Dec.{eqb}
 use lib.ListN.{length, length-append}
 use Rattle.std.specs.declared.option.Option.{Option}
 use Rattle.std.specs.declared.option.Option.the-variants.{Some, None}
-use Rattle.std.proofs.shelf.Tests.{cases-lt, eqb-true, eqb-false, eq-eqb}
+use Rattle.std.proofs.shelf.Tests.{eqb-true, eqb-false}
 use Rattle.floors.specs.declared.leg.Leg.{Leg}
 use Rattle.floors.specs.Meaning.{Meaning}
 use Rattle.floors.specs.Route.{Route, last, alone, onward}
 use Rattle.floors.specs.Sound.{Sound}
 use Rattle.search_model.specs.declared.records.Record.{Record}
-use Rattle.search_model.specs.Records.{at, Seen}
+use Rattle.search_model.specs.Records.{at}
 use Rattle.search_model.specs.Read.{Trail, extended, follow}
 use Rattle.search_model.proofs.Costs.{leg-place}
 use Rattle.search_model.proofs.Counts.{sum-below, sum-strict, sum-few}
@@ -68,10 +67,10 @@ module _ (m : Meaning) (start : ℕ) (t : List Record) where
     follow-astray l h u = rw (away, follow, h, u)
 
     pub follow-parent :
-      (l : Leg)
-      → m .leg (at t p .parent) (at t p .leg) ≡ Some l
-      → eqb (l .target) p ≡ true
-      → follow m start t (suc n) p ≡ extended (l .cost) p (follow m start t n (at t p .parent))
+        (l : Leg)
+        → m .leg (at t p .parent) (at t p .leg) ≡ Some l
+        → eqb (l .target) p ≡ true
+        → follow m start t (suc n) p ≡ extended (l .cost) p (follow m start t n (at t p .parent))
     follow-parent l h u = rw (away, follow, h, u)
 
 module _ (m : Meaning) (sound : Sound m) (start : ℕ) (on : start < m .size) (t : List Record) where
@@ -98,12 +97,14 @@ module _ (m : Meaning) (sound : Sound m) (start : ℕ) (on : start < m .size) (t
       by-target l e h true u = comes (eqb-false p start e) l h (eqb-true (l .target) p u) (λ n. follow-parent m start t n p e l h u)
       by-target l e h false u =
           lost
-            (eqb-false p start e)
-            (λ d y z. let same : d ≡ l = cc in eqb-false (l .target) p u (ap (λ (l : Leg). l .target) (sym same) ∙ z))
-            (λ n. follow-astray m start t n p e l h u)
+          (eqb-false p start e)
+          (λ d y z. let same : d ≡ l = cc in eqb-false (l .target) p u (ap (λ (l : Leg). l .target) (sym same) ∙ z))
+          (λ n. follow-astray m start t n p e l h u)
+
       by-leg : eqb p start ≡ false → (o : Option Leg) → m .leg (at t p .parent) (at t p .leg) ≡ o → Back p
       by-leg e None h = lost (eqb-false p start e) (λ d y _. let z : _≡_ {A = ℕ} 0 1 = cc in omega arith) (λ n. follow-barred m start t n p e h)
       by-leg e (Some l) h = by-target l e h (eqb (l .target) p) refl
+
       by-start : (b : Bool) → eqb p start ≡ b → Back p
       by-start true e = arrives (eqb-true p start e) (λ n. follow-arrives m start t n p e)
       by-start false e = by-leg e (m .leg (at t p .parent) (at t p .leg)) refl

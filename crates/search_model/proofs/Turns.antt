@@ -1,20 +1,22 @@
 -- The definition step by step, for code that follows it.
-use Prim.Native.Nat.{ℕ, zero, suc, _+_}
+use Prim.Native.Nat.{ℕ, zero, suc}
 use mathlib.Core.Bool.{true, false}
 use mathlib.Core.List.{List}
-use mathlib.Core.Path.{_≡_, refl, ap, _∙_}
-use lib.ListN.{set}
-use Rattle.std.specs.declared.option.Option.{Option}
+use mathlib.Core.Logic.{⊎-elim}
+use mathlib.Core.Path.{_≡_, refl, sym, ap, _∙_}
+use native.Mathlib.Omega.{arith}
+use lib.ListN.{length, set}
 use Rattle.std.specs.declared.option.Option.the-variants.{Some, None}
 use Rattle.floors.specs.declared.leg.Leg.{Leg}
-use Rattle.floors.specs.Guided.{Guided}
+use Rattle.floors.specs.Guided.{Guided, SoundGuided}
 use Rattle.search_model.specs.declared.records.Record.{Record}
 use Rattle.search_model.specs.declared.search.Search.{Search}
-use Rattle.search_model.specs.Records.{at, f}
+use Rattle.search_model.specs.Records.{at, f, Seen}
 use Rattle.search_model.specs.Choice.{low-place, choice}
-use Rattle.search_model.specs.Expansion.{takes, offer, along, expanded, counted}
+use Rattle.search_model.specs.Expansion.{takes, offer, along, spread, expanded, counted}
 use Rattle.search_model.specs.Advance.{Barren, Settled, More, low-mark, nothing, goal, other, turn, turn-at, stop, after, going}
-use Rattle.search_model.proofs.Labels.{offered-label, given-record}
+use Rattle.search_model.proofs.Labels.{offered-label, given-record, Given, given-label}
+use Rattle.search_model.proofs.Rules.{Kept, spread-rule}
 
 -- One leg.
 module _ (g : Guided) (n k : ℕ) (t : List Record) where
@@ -25,11 +27,33 @@ module _ (g : Guided) (n k : ℕ) (t : List Record) where
   along-passed l e h = rw (e, along) (rw (h, offer))
 
   pub along-given :
-    (l : Leg)
-    → g .floor .leg n k ≡ Some l
-    → takes (offered-label t n l) (at t (l .target)) ≡ true
-    → along g n k t ≡ set t (l .target) (given-record g t n k l)
+      (l : Leg)
+      → g .floor .leg n k ≡ Some l
+      → takes (offered-label t n l) (at t (l .target)) ≡ true
+      → along g n k t ≡ set t (l .target) (given-record g t n k l)
   along-given l e h = rw (e, along) (rw (h, offer))
+
+-- While its legs are taken a place keeps its record, so its label can be read once.
+module _ (g : Guided) (sound : SoundGuided g) (n : ℕ) (t : List Record) (seen : Seen t n) where
+  record Own (u : List Record) : Type 0 where
+    sized : length u ≡ g .floor .size
+    same : at u n ≡ at t n
+
+  legs-leave-own : Kept g n (λ k u. Own u)
+  legs-leave-own =
+      record { barred = λ k u e p. p; passed = λ k u l e h p. p; given = λ k u l e h p. taken k u l (given-label g u n k l sound (p .sized) e h) p }
+    where
+      taken : (k : ℕ) (u : List Record) (l : Leg) → Given g u n k l → Own u → Own (set u (l .target) (given-record g u n k l))
+      taken k u l h p = record { sized = h .change .sized ∙ p .sized; same = h .change .elsewhere n apart ∙ p .same }
+        where
+          apart : n ≡ l .target → ⊥
+          apart e =
+              let mark : at u (l .target) .mark ≡ at t n .mark = ap (λ q. at u q .mark) (sym e) ∙ ap (λ (r : Record). r .mark) (p .same) in
+              let label : at u (l .target) .label ≡ at u n .label = ap (λ q. at u q .label) (sym e) in
+              ⊎-elim (λ z. omega arith) (λ z. omega arith) (h .reason)
+
+  pub spread-own : length t ≡ g .floor .size → (k : ℕ) → at (spread g n k t) n ≡ at t n
+  spread-own sized k = spread-rule g n (λ k u. Own u) legs-leave-own t (record { sized = sized; same = refl }) k .same
 
 -- One turn of an advance.
 module _ (g : Guided) (s : Search) (t : List Record) where

@@ -35,9 +35,9 @@ pub record Progress (g : Guided) (budget : ℕ) (s : Search) (t : List Record) :
 pub record Ending : Type 0 where
   pub progress : (g : Guided) (budget : ℕ) (s : Search) (t : List Record) → SoundGuided g → length t ≡ g .floor .size → Progress g budget s t
   pub ends :
-    (g : Guided) (budget : ℕ) (s : Search) (t : List Record)
-    → SoundGuided g
-    → Proper g t
-    → g .floor .size * (limit + 1) < budget
-    → going g budget s t .answer ≡ More
-    → ⊥
+      (g : Guided) (budget : ℕ) (s : Search) (t : List Record)
+      → SoundGuided g
+      → Proper g t
+      → g .floor .size * (limit + 1) < budget
+      → going g budget s t .answer ≡ More
+      → ⊥

@@ -5,7 +5,6 @@ use mathlib.Core.List.{List}
 use lib.Dec.{leb, ltb}
 use lib.ListN.{set}
 use Rattle.std.specs.declared.option.Option.the-variants.{Some, None}
-use Rattle.floors.specs.declared.leg.Leg.{Leg}
 use Rattle.floors.specs.Guided.{Guided}
 use Rattle.floors.specs.Sound.{limit}
 use Rattle.search_model.specs.declared.records.Record.{Record}

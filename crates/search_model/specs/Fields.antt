@@ -32,7 +32,7 @@ pub record Proper (g : Guided) (records : List Record) : Type 0 where
 pub record LimitsKept : Type 0 where
   pub begins : (g : Guided) (start : ℕ) → SoundGuided g → start < g .floor .size → Proper g (first-records g start)
   pub advances :
-    (g : Guided) (budget : ℕ) (s : Search) (t : List Record)
-    → SoundGuided g
-    → Proper g t
-    → Proper g (going g budget s t .records)
+      (g : Guided) (budget : ℕ) (s : Search) (t : List Record)
+      → SoundGuided g
+      → Proper g t
+      → Proper g (going g budget s t .records)
