@@ -4,7 +4,7 @@ use mathlib.Core.Bool.{true, false}
 use mathlib.Core.List.{List}
 use mathlib.Core.Logic.{_⊎_, inl, inr, ⊎-elim}
 use mathlib.Core.Path.{_≡_, refl, _∙_, ap}
-use native.Mathlib.Nat.{mul-le-mul-left}
+use native.Mathlib.Nat.{mul-le-mul-left, mul-le-mul-right}
 use native.Mathlib.Omega.{arith}
 use lib.ListN.{length}
 use Rattle.std.specs.declared.option.Option.{Option}
@@ -15,9 +15,9 @@ use Rattle.search_model.specs.declared.records.Record.{Record}
 use Rattle.search_model.specs.declared.search.Search.{Search}
 use Rattle.search_model.specs.Records.{at, is-open, f, f-hat, Open}
 use Rattle.search_model.specs.Choice.{least, by-key, low-place, hope-place, near-place, within, is-near, rank, nearer, if-within, choice}
-use Rattle.search_model.proofs.Least.{least-is, least-none}
+use Rattle.search_model.proofs.Least.{least-is, least-none, least-missing}
 use Rattle.search_model.proofs.Table.{seen-on}
-use Rattle.search_model.proofs.Chosen.{by-key-ranks, near-ranks, near-open, head-least, head-missing}
+use Rattle.search_model.proofs.Chosen.{by-key-ranks, near-ranks, near-open, head-open, head-least, head-missing}
 
 -- Key x at p comes before key y at q, or ties at a number that is not higher.
 abbrev pub Before : ℕ → ℕ → ℕ → ℕ → Type 0
@@ -85,6 +85,14 @@ near-test s t h p e =
       close = leb-true (s .bound .b * f-hat (at t p)) (s .bound .a * h) (both .1);
     }
 
+near-holds : (s : Search) (t : List Record) (h p : ℕ) → Near s t h p → is-near s h (at t p) ≡ true
+near-holds s t h p n =
+    and-from
+    (is-open (at t p))
+    (within s h (at t p))
+    (eq-eqb (at t p .mark) 1 (n .opened))
+    (le-leb (s .bound .b * f-hat (at t p)) (s .bound .a * h) (n .close))
+
 pub near-is :
     (s : Search) (t : List Record) (h p : ℕ)
     → hope-place t ≡ Some h
@@ -107,11 +115,35 @@ near-is s t h p e n first = rw (e, near-place) found
         (length t)
         p
         (seen-on t p (omega arith))
-        (and-from (is-open (at t p)) (within s (f-hat (at t h)) (at t p)) (eq-eqb (at t p .mark) 1 (n .opened)) (le-leb (s .bound .b * f-hat (at t p)) (s .bound .a * f-hat (at t h)) (n .close)))
+        (near-holds s t (f-hat (at t h)) p n)
         (λ q l x. ordered q (first q (near-test s t (f-hat (at t h)) q x)))
 
 pub near-none : (s : Search) (t : List Record) → ((q : ℕ) → Open t q → ⊥) → near-place s t ≡ None
 near-none s t h = rw (hope-none t h, near-place)
+
+-- Under a bound of at least 1 hope itself is in the near set.
+pub near-missing : (s : Search) (t : List Record) → s .bound .b ≤ s .bound .a → near-place s t ≡ None → (q : ℕ) → Open t q → ⊥
+near-missing s t ba = by (hope-place t) refl
+  where
+    by :
+        (x : Option ℕ)
+        → hope-place t ≡ x
+        → _≡_ {A = Option ℕ} (elim x [ None ↦ None | Some h ↦ least (λ q. is-near s (f-hat (at t h)) (at t q)) (λ q r. nearer s (at t q) (at t r)) (length t) ]) None
+        → (q : ℕ)
+        → Open t q
+        → ⊥
+    by None e n q o = head-missing f-hat t e q o
+    by (Some h) e n q o =
+        let opened : Open t h = head-open f-hat t h e in
+        least-missing
+        (λ q. is-near s (f-hat (at t h)) (at t q))
+        (λ q r. nearer s (at t q) (at t r))
+        (near-ranks s t)
+        (length t)
+        n
+        h
+        (seen-on t h (omega arith))
+        (near-holds s t (f-hat (at t h)) h (record { opened = opened; close = mul-le-mul-right (f-hat (at t h)) ba }))
 
 -- f̂ of near is at least f̂ of hope.
 pub hope-before-near : (s : Search) (t : List Record) (h p : ℕ) → hope-place t ≡ Some h → near-place s t ≡ Some p → f-hat (at t h) ≤ f-hat (at t p)

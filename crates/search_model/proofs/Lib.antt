@@ -5,6 +5,7 @@ pub mod Heads
 pub mod Rules
 pub mod Labels
 pub mod Turns
+pub mod Loops
 pub mod Potential
 pub mod Limits
 pub mod Costs

@@ -40,10 +40,12 @@ pub data Turn : Type 0 where
   goal : ℕ → Turn
   other : ℕ → Turn
 
+-- The choice, told apart: none, a goal, or another place.
 abbrev pub turn-at : Guided → Option ℕ → Turn
 turn-at g None = nothing
 turn-at g (Some n) = elim (g .floor .goal n) [ true ↦ goal n | false ↦ other n ]
 
+-- The turn of a search: its choice by the low mark.
 abbrev pub turn : Guided → Search → List Record → Turn
 turn g s records = elim (low-mark records) [ None ↦ nothing | Some m ↦ turn-at g (choice s m records) ]
 

@@ -25,16 +25,18 @@ searched g bound budget = going g budget (first-search g 0 bound) (first-records
 abbrev pub resumed : Guided → Bound → ℕ → Outcome → Outcome
 resumed g bound budget o = going g budget (rebounded bound (o .search-after)) (o .records)
 
--- What an outcome comes to: answer, expanded places, low mark and total.
+-- What is told of an outcome: answer, expanded places, low mark and total.
 pub record Summary : Type 0 where
   pub answer : Answer
   pub places : List ℕ
   pub mark : Option ℕ
   pub total : ℕ
 
+-- The summary of an outcome.
 abbrev pub summary : Outcome → Summary
 summary o = record { answer = o .answer; places = o .places; mark = o .mark; total = o .search-after .total }
 
+-- A summary written out.
 abbrev pub comes-to : Answer → List ℕ → Option ℕ → ℕ → Summary
 comes-to answer places mark total = record { answer = answer; places = places; mark = mark; total = total }
 
@@ -42,6 +44,7 @@ comes-to answer places mark total = record { answer = answer; places = places; m
 abbrev pub route-after : Guided → Outcome → ℕ → Option Trail
 route-after g o goal = read-route (g .floor) (o .search-after) (o .records) goal
 
+-- A trail written out.
 abbrev pub trail : List ℕ → ℕ → Option Trail
 trail places cost = Some (record { places = places; cost = cost })
 

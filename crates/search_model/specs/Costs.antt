@@ -36,9 +36,9 @@ most-expansions m = m .size * (greatest-label m + 1)
 abbrev pub GoalRoute : Meaning → ℕ → List ℕ → ℕ → Type 0
 GoalRoute m p qs c = Route m p qs c × (m .goal (last p qs) ≡ true)
 
--- A bound of 1 at least: 1 ≤ b ≤ a.
+-- A bound of at least 1: 1 ≤ b ≤ a.
 pub record ValidBound (bound : Bound) : Type 0 where
-  pub some : 1 ≤ bound .b
+  pub positive : 1 ≤ bound .b
   pub ordered : bound .b ≤ bound .a
 
 -- A cost is within the bound: b × the cost is at most a × the cost of every route from the start to a goal.

@@ -18,6 +18,7 @@ weight-of unseen zero label = unseen
 weight-of unseen (suc zero) label = label + 1
 weight-of unseen (suc (suc m)) label = label
 
+-- The weight of a record.
 abbrev pub weight : ℕ → Record → ℕ
 weight unseen r = weight-of unseen (r .mark) (r .label)
 

@@ -28,13 +28,13 @@ pub record SettledLaw (m : Meaning) (start : ℕ) (bound : Bound) (records : Lis
   pub bounded : Bounded m start bound (at records n .label)
   pub reachable : (qs : List ℕ) × (c : ℕ) × Route m start qs c × (last start qs ≡ n)
 
--- Barren where there is no route, settled where there is one.
+-- Barren only where there is no route to a goal, settled only where there is one.
 abbrev pub AnswerLaw : Meaning → ℕ → Bound → List Record → Answer → Type 0
 AnswerLaw m start bound records Barren = NoRoute m start
 AnswerLaw m start bound records (Settled n) = SettledLaw m start bound records n
 AnswerLaw m start bound records More = Unit {0}
 
--- The low mark is absent when barren.
+-- The low mark is absent when barren, and only then.
 abbrev pub MarkLaw : Answer → Option ℕ → Type 0
 MarkLaw Barren mark = isSome mark ≡ false
 MarkLaw (Settled n) mark = isSome mark ≡ true

@@ -31,12 +31,14 @@ f r = r .label + r .low
 abbrev pub f-hat : Record → ℕ
 f-hat r = r .label + r .hope
 
--- What the marks say of a place.
+-- A seen place is open or closed.
 abbrev pub Seen : List Record → ℕ → Type 0
 Seen records p = 1 ≤ at records p .mark
 
+-- The place is open.
 abbrev pub Open : List Record → ℕ → Type 0
 Open records p = at records p .mark ≡ 1
 
+-- A closed place has been expanded, and has been given no label since.
 abbrev pub Closed : List Record → ℕ → Type 0
 Closed records p = at records p .mark ≡ 2

@@ -9,7 +9,7 @@ use Rattle.std.specs.declared.option.Option.the-variants.{Some, None}
 use Rattle.floors.specs.declared.leg.Leg.{Leg}
 use Rattle.floors.specs.Guided.{Guided}
 
--- What a small floor is made from: its places, each with low, hope, steps, goal or not, and its legs.
+-- One place of a small floor.
 pub record Spot : Type 0 where
   pub low : ℕ
   pub hope : ℕ
@@ -17,9 +17,11 @@ pub record Spot : Type 0 where
   pub goal : Bool
   pub legs : List (Option Leg)
 
+-- Off the floor.
 abbrev pub nowhere : Spot
 nowhere = record { low = 0; hope = 0; steps = 0; goal = false; legs = [] }
 
+-- A place from its low, hope, steps, goal or not, and legs.
 abbrev pub spot : ℕ → ℕ → ℕ → Bool → List (Option Leg) → Spot
 spot low hope steps goal legs = record { low = low; hope = hope; steps = steps; goal = goal; legs = legs }
 
