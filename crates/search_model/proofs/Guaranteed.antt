@@ -11,7 +11,7 @@ use Rattle.search_model.specs.declared.bound.Bound.{Bound}
 use Rattle.search_model.specs.declared.records.Record.{Record}
 use Rattle.search_model.specs.declared.search.Search.{Search}
 use Rattle.search_model.specs.Records.{at, Seen}
-use Rattle.search_model.specs.Advance.{Answer, Barren, Settled, More, Outcome, low-mark, going}
+use Rattle.search_model.specs.Advance.{Answer, Barren, Settled, More, Outcome, low-mark}
 use Rattle.search_model.specs.Begin.{rebounded}
 use Rattle.search_model.specs.Read.{follow, read-route}
 use Rattle.search_model.specs.Costs.{GoalRoute, ValidBound, most-expansions}
@@ -133,65 +133,56 @@ module _ (g : Guided) (sound : SoundGuided g) (start : ℕ) where
   rebound-good s t bound st valid =
       record { reached = rebound-reaches g sound s t bound valid (st .reached); start-is = st .start-is; bound-is = refl; total-is = st .total-is }
 
-  pub after-advance :
-      (bound : Bound) (total budget : ℕ) (s : Search) (t : List Record)
-      → Standing g start bound total s t
-      → Ended g (ReachedFrom g s) 0 budget (going g budget s t)
-      → Standing g start bound (going g budget s t .search-after .total) (going g budget s t .search-after) (going g budget s t .records)
-  after-advance bound total budget s t st e =
-      record {
-        reached = e .holds .reached;
-        start-is = e .holds .start ∙ st .start-is;
-        bound-is = e .holds .bound ∙ st .bound-is;
-        total-is = refl;
-      }
+  -- What is left by an advance of a standing search, of which all that is used is how it ended.
+  module _ (bound : Bound) (total budget : ℕ) (s : Search) (t : List Record) (o : Outcome) (st : Standing g start bound total s t) (e : Ended g (ReachedFrom g s) 0 budget o) where
+    pub after-advance : Standing g start bound (o .search-after .total) (o .search-after) (o .records)
+    after-advance =
+        record {
+          reached = e .holds .reached;
+          start-is = e .holds .start ∙ st .start-is;
+          bound-is = e .holds .bound ∙ st .bound-is;
+          total-is = refl;
+        }
+
+    pub advance-law : AdvanceLaw (g .floor) start bound total budget o
+    advance-law =
+        let few : o .search-after .total ≤ most-expansions (g .floor) = omega (arith, e .holds .reached .spent) in
+        record {
+          answered =
+              standing-law
+              after-advance
+              (λ x b. AnswerLaw (g .floor) x b (o .records) (o .answer))
+              (answer-law g sound (o .search-after) (o .records) (o .answer) (e .holds .reached) (e .says));
+          marked = subst (MarkLaw (o .answer)) (sym (e .marked)) (mark-law g sound (o .search-after) (o .records) (o .answer) (e .says));
+          mark-below =
+              λ mark is.
+              standing-law
+              after-advance
+              (λ x b. (qs : List ℕ) (c : ℕ) → GoalRoute (g .floor) x qs c → mark ≤ c)
+              (low-mark-below g sound (o .search-after .start) (o .records) (e .holds .reached .invariant) mark (sym (e .marked) ∙ is));
+          spent = e .spent;
+          affordable = e .affordable;
+          exact = omega (arith, e .holds .total, st .total-is);
+          few = few;
+          uncapped = omega (arith, most-expansions-below (g .floor) (sound .floor));
+        }
 
   pub left-good : (bound : Bound) (total : ℕ) (s : Search) (t : List Record) (a : Answer) → Standing g start bound total s t → AnswerLaw (g .floor) start bound t a → Good g start bound total (left-by a s t)
   left-good bound total s t Barren st law = tt
   left-good bound total s t (Settled n) st law = (st, law)
   left-good bound total s t More st law = st
 
-  -- An advance of a standing search.
-  pub advance-law : (bound : Bound) (total budget : ℕ) (s : Search) (t : List Record) → Standing g start bound total s t → AdvanceLaw (g .floor) start bound total budget (going g budget s t)
-  advance-law bound total budget s t st =
-      let e : Ended g (ReachedFrom g s) 0 budget (going g budget s t) = advance-reaches g sound budget s t (st .reached) in
-      let after : Standing g start bound (going g budget s t .search-after .total) (going g budget s t .search-after) (going g budget s t .records) =
-      after-advance bound total budget s t st e in
-      let few : going g budget s t .search-after .total ≤ most-expansions (g .floor) = omega (arith, e .holds .reached .spent) in
-      record {
-        answered =
-            standing-law
-            after
-            (λ x b. AnswerLaw (g .floor) x b (going g budget s t .records) (going g budget s t .answer))
-            (answer-law g sound (going g budget s t .search-after) (going g budget s t .records) (going g budget s t .answer) (e .holds .reached) (e .says));
-        marked =
-            subst
-            (MarkLaw (going g budget s t .answer))
-            (sym (e .marked))
-            (mark-law g sound (going g budget s t .search-after) (going g budget s t .records) (going g budget s t .answer) (e .says));
-        mark-below =
-            λ mark is.
-            standing-law
-            after
-            (λ x b. (qs : List ℕ) (c : ℕ) → GoalRoute (g .floor) x qs c → mark ≤ c)
-            (low-mark-below g sound (going g budget s t .search-after .start) (going g budget s t .records) (e .holds .reached .invariant) mark (sym (e .marked) ∙ is));
-        spent = e .spent;
-        affordable = e .affordable;
-        exact = omega (arith, e .holds .total, st .total-is);
-        few = few;
-        uncapped = omega (arith, most-expansions-below (g .floor) (sound .floor));
-      }
-
   pub run-guaranteed : {z y : State} {es : List Event} → Run g z es y → (bound : Bound) (total : ℕ) → Good g start bound total z → Guaranteed (g .floor) start bound total es
   run-guaranteed done bound total h = tt
   run-guaranteed (advance budget s t o is run) bound total h =
-      let law : AdvanceLaw (g .floor) start bound total budget (going g budget s t) = advance-law bound total budget s t h in
-      let after : Standing g start bound (going g budget s t .search-after .total) (going g budget s t .search-after) (going g budget s t .records) =
-      after-advance bound total budget s t h (advance-reaches g sound budget s t (h .reached)) in
-      let good : Good g start bound (going g budget s t .search-after .total) (left-by (going g budget s t .answer) (going g budget s t .search-after) (going g budget s t .records)) =
-      left-good bound (going g budget s t .search-after .total) (going g budget s t .search-after) (going g budget s t .records) (going g budget s t .answer) after (law .answered) in (
-        subst (AdvanceLaw (g .floor) start bound total budget) (sym is) law,
-        run-guaranteed run bound (o .search-after .total) (subst (λ (o : Outcome). Good g start bound (o .search-after .total) (left-by (o .answer) (o .search-after) (o .records))) (sym is) good),
+      let e : Ended g (ReachedFrom g s) 0 budget o = subst (Ended g (ReachedFrom g s) 0 budget) (sym is) (advance-reaches g sound budget s t (h .reached)) in
+      let law : AdvanceLaw (g .floor) start bound total budget o = advance-law bound total budget s t o h e in (
+        law,
+        run-guaranteed
+            run
+            bound
+            (o .search-after .total)
+            (left-good bound (o .search-after .total) (o .search-after) (o .records) (o .answer) (after-advance bound total budget s t o h e) (law .answered)),
       )
   run-guaranteed (rebound-running b s t valid run) bound total h = run-guaranteed run b total (rebound-good s t b h valid)
   run-guaranteed (rebound-settled b n s t valid run) bound total h = run-guaranteed run b total (rebound-good s t b (h .0) valid)

@@ -13,8 +13,8 @@ use Rattle.search_model.specs.Expansion.{labelled, spread, closed, expanded}
 use Rattle.search_model.specs.Begin.{first-records}
 use Rattle.search_model.specs.Fields.{SeenLimits, RecordLimits, Proper, LimitsKept}
 use Rattle.search_model.proofs.Table.{changed-keeps, begun-keeps, begun-sized}
-use Rattle.search_model.proofs.Labels.{Given, given-label, given-record, offered-label, closing}
-use Rattle.search_model.proofs.Rules.{Kept, spread-rule, going-rule}
+use Rattle.search_model.proofs.Labels.{Given, given-record, offered-label, closing}
+use Rattle.search_model.proofs.Rules.{Kept, kept-by-labels, spread-rule, going-rule}
 
 module _ (g : Guided) (sound : SoundGuided g) where
   -- A label within the limit makes a record within its limits.
@@ -36,8 +36,7 @@ module _ (g : Guided) (sound : SoundGuided g) where
       }
 
   legs-proper : (n : ℕ) → Kept g n (λ k t. Proper g t)
-  legs-proper n =
-      record { barred = λ k t e p. p; passed = λ k t l e h p. p; given = λ k t l e h p. taken k t l (given-label g t n k l sound (p .sized) e h) p }
+  legs-proper n = kept-by-labels g n (Proper g) sound (λ t p. p .sized) taken
     where
       taken : (k : ℕ) (t : List Record) (l : Leg) → Given g t n k l → Proper g t → Proper g (set t (l .target) (given-record g t n k l))
       taken k t l h p =

@@ -20,8 +20,8 @@ use Rattle.search_model.specs.Advance.{going}
 use Rattle.search_model.specs.Fields.{SeenLimits, RecordLimits}
 use Rattle.search_model.specs.Ending.{weight-of, weight, potential, Progress, Ending}
 use Rattle.search_model.proofs.Table.{Changed}
-use Rattle.search_model.proofs.Labels.{weight-unseen, weight-open, weight-closed, weight-seen, Given, given-label, given-record, closing}
-use Rattle.search_model.proofs.Rules.{Kept, spread-rule, Ended, KeptByExpansion, going-rule}
+use Rattle.search_model.proofs.Labels.{weight-unseen, weight-open, weight-closed, weight-seen, Given, given-record, closing}
+use Rattle.search_model.proofs.Rules.{Kept, kept-by-labels, spread-rule, Ended, KeptByExpansion, going-rule}
 
 -- A label given to a place, which an unseen place must outweigh.
 pub given-potential :
@@ -63,19 +63,14 @@ closed-potential u {t} {v} {n} c opened =
 -- The two at a whole expansion, over any records.
 module _ (g : Guided) (sound : SoundGuided g) where
   -- The records still stand one for each place, and their potential has fallen to x.
-  record Fallen (x : ℕ) (k : ℕ) (t : List Record) : Type 0 where
+  record Fallen (x : ℕ) (t : List Record) : Type 0 where
     sized : length t ≡ g .floor .size
     below : potential (limit + 1) t ≤ x
 
-  legs-fall : (n x : ℕ) → Kept g n (Fallen x)
-  legs-fall n x =
-      record {
-        barred = λ k t e p. record { sized = p .sized; below = p .below };
-        passed = λ k t l e h p. record { sized = p .sized; below = p .below };
-        given = λ k t l e h p. taken k t l (given-label g t n k l sound (p .sized) e h) p;
-      }
+  legs-fall : (n x : ℕ) → Kept g n (λ k t. Fallen x t)
+  legs-fall n x = kept-by-labels g n (Fallen x) sound (λ t p. p .sized) taken
     where
-      taken : (k : ℕ) (t : List Record) (l : Leg) → Given g t n k l → Fallen x k t → Fallen x (suc k) (set t (l .target) (given-record g t n k l))
+      taken : (k : ℕ) (t : List Record) (l : Leg) → Given g t n k l → Fallen x t → Fallen x (set t (l .target) (given-record g t n k l))
       taken k t l h p =
           let lower : potential (limit + 1) (set t (l .target) (given-record g t n k l)) ≤ potential (limit + 1) t =
           given-potential (limit + 1) (h .change) refl (λ _. omega (arith, h .small)) (h .reason) in
@@ -90,11 +85,11 @@ module _ (g : Guided) (sound : SoundGuided g) where
   expansion-falls x k s t n h p =
       let c : Changed t n (closed (at t n)) (set t n (closed (at t n))) = closing t n (h .opened) in
       let one : potential (limit + 1) (set t n (closed (at t n))) + 1 ≡ potential (limit + 1) t = closed-potential (limit + 1) c (h .opened) in
-      let all : Fallen (potential (limit + 1) (set t n (closed (at t n)))) (g .floor .count n) (expanded g n t) =
+      let all : Fallen (potential (limit + 1) (set t n (closed (at t n)))) (expanded g n t) =
       spread-rule
       g
       n
-      (Fallen (potential (limit + 1) (set t n (closed (at t n)))))
+      (λ k t′. Fallen (potential (limit + 1) (set t n (closed (at t n)))) t′)
       (legs-fall n (potential (limit + 1) (set t n (closed (at t n)))))
       (set t n (closed (at t n)))
       (record { sized = c .sized ∙ p .sized; below = le-refl (potential (limit + 1) (set t n (closed (at t n)))) })

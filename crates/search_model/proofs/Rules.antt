@@ -5,16 +5,17 @@ use mathlib.Core.List.{List}
 use mathlib.Core.Path.{_≡_, refl, sym, ap, subst}
 use native.Mathlib.Nat.{add-zero}
 use native.Mathlib.Omega.{arith}
-use lib.ListN.{set}
+use lib.ListN.{length, set}
 use Rattle.std.specs.declared.option.Option.{Option}
 use Rattle.std.specs.declared.option.Option.the-variants.{Some, None}
 use Rattle.floors.specs.declared.leg.Leg.{Leg}
-use Rattle.floors.specs.Guided.{Guided}
+use Rattle.floors.specs.Guided.{Guided, SoundGuided}
 use Rattle.search_model.specs.declared.records.Record.{Record}
 use Rattle.search_model.specs.declared.search.Search.{Search}
 use Rattle.search_model.specs.Records.{at}
 use Rattle.search_model.specs.Expansion.{labelled, takes, offer, spread, expanded, counted}
 use Rattle.search_model.specs.Advance.{Answer, Barren, Settled, More, Outcome, expansions, low-mark, Turn, nothing, goal, other, turn, stop, after, going}
+use Rattle.search_model.proofs.Labels.{Given, given-label, given-record}
 use Rattle.search_model.proofs.Chosen.{Picked, TurnSays, turn-says}
 
 -- P is kept by leg k of n: where it is barred, where its target does not take the label, and where it does.
@@ -47,6 +48,20 @@ spread-rule g n P h t p (suc k) = by-leg (spread g n k t) (spread-rule g n P h t
             → P (suc k) (elim b [ true ↦ set u (l .target) (labelled g (l .target) (at u n .label + l .cost) n k) | false ↦ u ])
         by-test true x = h .given k u l e x q
         by-test false x = h .passed k u l e x q
+
+-- What is kept where a label is given, and says that there is one record for each place, is kept by every leg.
+pub kept-by-labels :
+    (g : Guided) (n : ℕ) (P : List Record → Type 0)
+    → SoundGuided g
+    → ((t : List Record) → P t → length t ≡ g .floor .size)
+    → ((k : ℕ) (t : List Record) (l : Leg) → Given g t n k l → P t → P (set t (l .target) (given-record g t n k l)))
+    → Kept g n (λ k t. P t)
+kept-by-labels g n P sound sized given =
+    record {
+      barred = λ k t e p. p;
+      passed = λ k t l e h p. p;
+      given = λ k t l e h p. given k t l (given-label g t n k l sound (sized t p) e h) p;
+    }
 
 -- What an answer says of the search and the records that it leaves.
 abbrev pub AnswerSays : Guided → Search → List Record → Answer → Type 0

@@ -15,8 +15,8 @@ use Rattle.search_model.specs.Records.{at, f, Seen}
 use Rattle.search_model.specs.Choice.{low-place, choice}
 use Rattle.search_model.specs.Expansion.{takes, offer, along, spread, expanded, counted}
 use Rattle.search_model.specs.Advance.{Barren, Settled, More, low-mark, nothing, goal, other, turn, turn-at, stop, after, going}
-use Rattle.search_model.proofs.Labels.{offered-label, given-record, Given, given-label}
-use Rattle.search_model.proofs.Rules.{Kept, spread-rule}
+use Rattle.search_model.proofs.Labels.{offered-label, given-record, Given}
+use Rattle.search_model.proofs.Rules.{Kept, kept-by-labels, spread-rule}
 
 -- One leg.
 module _ (g : Guided) (n k : ℕ) (t : List Record) where
@@ -40,8 +40,7 @@ module _ (g : Guided) (sound : SoundGuided g) (n : ℕ) (t : List Record) (seen 
     same : at u n ≡ at t n
 
   legs-leave-own : Kept g n (λ k u. Own u)
-  legs-leave-own =
-      record { barred = λ k u e p. p; passed = λ k u l e h p. p; given = λ k u l e h p. taken k u l (given-label g u n k l sound (p .sized) e h) p }
+  legs-leave-own = kept-by-labels g n Own sound (λ u p. p .sized) taken
     where
       taken : (k : ℕ) (u : List Record) (l : Leg) → Given g u n k l → Own u → Own (set u (l .target) (given-record g u n k l))
       taken k u l h p = record { sized = h .change .sized ∙ p .sized; same = h .change .elsewhere n apart ∙ p .same }
