@@ -102,10 +102,10 @@ module _ (g : Guided) (sound : SoundGuided g) where
       })
 
 -- What holds of a state: a reached one, and of a settled one its law.
-abbrev pub Good : Guided → ℕ → Bound → ℕ → State → Type 0
-Good g start bound total (running s t) = Standing g start bound total s t
-Good g start bound total (settled n s t) = Standing g start bound total s t × SettledLaw (g .floor) start bound t n
-Good g start bound total barren = Unit {0}
+abbrev pub StateInvariant : Guided → ℕ → Bound → ℕ → State → Type 0
+StateInvariant g start bound total (running s t) = Standing g start bound total s t
+StateInvariant g start bound total (settled n s t) = Standing g start bound total s t × SettledLaw (g .floor) start bound t n
+StateInvariant g start bound total barren = Unit {0}
 
 module _ (g : Guided) (sound : SoundGuided g) (start : ℕ) where
   -- The law at the start and the bound of a standing search.
@@ -125,12 +125,12 @@ module _ (g : Guided) (sound : SoundGuided g) (start : ℕ) where
       → Law (s .start) (s .bound)
   standing-back {bound} {s = s} st Law law = subst (λ b. Law (s .start) b) (sym (st .bound-is)) (subst (λ x. Law x bound) (sym (st .start-is)) law)
 
-  pub rebound-good :
+  pub rebound-invariant :
       {old : Bound} {total : ℕ} (s : Search) (t : List Record) (bound : Bound)
       → Standing g start old total s t
       → ValidBound bound
       → Standing g start bound total (rebounded bound s) t
-  rebound-good s t bound st valid =
+  rebound-invariant s t bound st valid =
       record { reached = rebound-reaches g sound s t bound valid (st .reached); start-is = st .start-is; bound-is = refl; total-is = st .total-is }
 
   -- What is left by an advance of a standing search, of which all that is used is how it ended.
@@ -167,12 +167,12 @@ module _ (g : Guided) (sound : SoundGuided g) (start : ℕ) where
           uncapped = omega (arith, most-expansions-below (g .floor) (sound .floor));
         }
 
-  pub left-good : (bound : Bound) (total : ℕ) (s : Search) (t : List Record) (a : Answer) → Standing g start bound total s t → AnswerLaw (g .floor) start bound t a → Good g start bound total (left-by a s t)
-  left-good bound total s t Barren st law = tt
-  left-good bound total s t (Settled n) st law = (st, law)
-  left-good bound total s t More st law = st
+  pub left-invariant : (bound : Bound) (total : ℕ) (s : Search) (t : List Record) (a : Answer) → Standing g start bound total s t → AnswerLaw (g .floor) start bound t a → StateInvariant g start bound total (left-by a s t)
+  left-invariant bound total s t Barren st law = tt
+  left-invariant bound total s t (Settled n) st law = (st, law)
+  left-invariant bound total s t More st law = st
 
-  pub run-guaranteed : {z y : State} {es : List Event} → Run g z es y → (bound : Bound) (total : ℕ) → Good g start bound total z → Guaranteed (g .floor) start bound total es
+  pub run-guaranteed : {z y : State} {es : List Event} → Run g z es y → (bound : Bound) (total : ℕ) → StateInvariant g start bound total z → Guaranteed (g .floor) start bound total es
   run-guaranteed done bound total h = tt
   run-guaranteed (advance budget s t o is run) bound total h =
       let e : Ended g (ReachedFrom g s) 0 budget o = subst (Ended g (ReachedFrom g s) 0 budget) (sym is) (advance-reaches g sound budget s t (h .reached)) in
@@ -182,10 +182,10 @@ module _ (g : Guided) (sound : SoundGuided g) (start : ℕ) where
             run
             bound
             (o .search-after .total)
-            (left-good bound (o .search-after .total) (o .search-after) (o .records) (o .answer) (after-advance bound total budget s t o h e) (law .answered)),
+            (left-invariant bound (o .search-after .total) (o .search-after) (o .records) (o .answer) (after-advance bound total budget s t o h e) (law .answered)),
       )
-  run-guaranteed (rebound-running b s t valid run) bound total h = run-guaranteed run b total (rebound-good s t b h valid)
-  run-guaranteed (rebound-settled b n s t valid run) bound total h = run-guaranteed run b total (rebound-good s t b (h .0) valid)
+  run-guaranteed (rebound-running b s t valid run) bound total h = run-guaranteed run b total (rebound-invariant s t b h valid)
+  run-guaranteed (rebound-settled b n s t valid run) bound total h = run-guaranteed run b total (rebound-invariant s t b (h .0) valid)
   run-guaranteed (read n s t r is run) bound total h = (
     subst
         (ReadLaw (g .floor) start bound n)

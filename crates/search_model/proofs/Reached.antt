@@ -46,12 +46,12 @@ pub record ReachedFrom (g : Guided) (s₀ : Search) (k : ℕ) (s : Search) (t : 
 
 module _ (g : Guided) (sound : SoundGuided g) where
   -- An expansion of n under way: the legs below k have been taken, and the potential is at most x.
-  record Half (start n x : ℕ) (k : ℕ) (t : List Record) : Type 0 where
+  record UnderWay (start n x : ℕ) (k : ℕ) (t : List Record) : Type 0 where
     invariant : Inv g start t n k
     seen : Seen t n
     below : remaining g t ≤ x
 
-  legs-keep : (start n x : ℕ) → Kept g n (Half start n x)
+  legs-keep : (start n x : ℕ) → Kept g n (UnderWay start n x)
   legs-keep start n x =
       record {
         barred = λ k t e p. record { invariant = barred-step g sound start t n k e (p .invariant); seen = p .seen; below = p .below };
@@ -63,8 +63,8 @@ module _ (g : Guided) (sound : SoundGuided g) where
           (k : ℕ) (t : List Record) (l : Leg)
           → g .floor .leg n k ≡ Some l
           → Given g t n k l
-          → Half start n x k t
-          → Half start n x (suc k) (set t (l .target) (given-record g t n k l))
+          → UnderWay start n x k t
+          → UnderWay start n x (suc k) (set t (l .target) (given-record g t n k l))
       taken k t l e h p =
           let u : List Record = set t (l .target) (given-record g t n k l) in
           let small : at t (l .target) .mark ≡ 0 → offered-label t n l < greatest-label (g .floor) + 1 =
@@ -83,11 +83,11 @@ module _ (g : Guided) (sound : SoundGuided g) where
       let c : Changed t n (closed (at t n)) u = closing t n (h .opened) in
       let one : remaining g (set t n (closed (at t n))) + 1 ≡ remaining g t =
       closed-potential (greatest-label (g .floor) + 1) c (h .opened) in
-      let all : Half (s .start) n (remaining g u) (g .floor .count n) (expanded g n t) =
+      let all : UnderWay (s .start) n (remaining g u) (g .floor .count n) (expanded g n t) =
       spread-rule
       g
       n
-      (Half (s .start) n (remaining g u))
+      (UnderWay (s .start) n (remaining g u))
       (legs-keep (s .start) n (remaining g u))
       u
       (record {

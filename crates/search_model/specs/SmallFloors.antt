@@ -9,52 +9,52 @@ use Rattle.std.specs.declared.option.Option.the-variants.{Some, None}
 use Rattle.floors.specs.declared.leg.Leg.{Leg}
 use Rattle.floors.specs.Guided.{Guided}
 
--- One place of a small floor.
-pub record Spot : Type 0 where
+-- One place of a small floor, a row of its list.
+pub record PlaceRow : Type 0 where
   pub low : ℕ
   pub hope : ℕ
   pub steps : ℕ
   pub goal : Bool
   pub legs : List (Option Leg)
 
--- Off the floor.
-abbrev pub nowhere : Spot
-nowhere = record { low = 0; hope = 0; steps = 0; goal = false; legs = [] }
+-- The row of a place off the floor.
+abbrev pub empty-row : PlaceRow
+empty-row = record { low = 0; hope = 0; steps = 0; goal = false; legs = [] }
 
 -- A place from its low, hope, steps, goal or not, and legs.
-abbrev pub spot : ℕ → ℕ → ℕ → Bool → List (Option Leg) → Spot
-spot low hope steps goal legs = record { low = low; hope = hope; steps = steps; goal = goal; legs = legs }
+abbrev pub row : ℕ → ℕ → ℕ → Bool → List (Option Leg) → PlaceRow
+row low hope steps goal legs = record { low = low; hope = hope; steps = steps; goal = goal; legs = legs }
 
 -- A usable leg.
-abbrev pub to : ℕ → ℕ → Option Leg
-to target cost = Some (record { target = target; cost = cost })
+abbrev pub leg-to : ℕ → ℕ → Option Leg
+leg-to target cost = Some (record { target = target; cost = cost })
 
 -- The guided floor of a list of places.
-abbrev pub floor-of-lists : List Spot → Guided
-floor-of-lists spots =
+abbrev pub floor-of-lists : List PlaceRow → Guided
+floor-of-lists rows =
     record {
       floor =
           record {
-            size = length spots;
-            count = λ p. length (getD spots p nowhere .legs);
-            leg = λ p k. getD (getD spots p nowhere .legs) k None;
-            goal = λ p. getD spots p nowhere .goal;
-            low = λ p. getD spots p nowhere .low;
+            size = length rows;
+            count = λ p. length (getD rows p empty-row .legs);
+            leg = λ p k. getD (getD rows p empty-row .legs) k None;
+            goal = λ p. getD rows p empty-row .goal;
+            low = λ p. getD rows p empty-row .low;
           };
-      hope = λ p. getD spots p nowhere .hope;
-      steps = λ p. getD spots p nowhere .steps;
+      hope = λ p. getD rows p empty-row .hope;
+      steps = λ p. getD rows p empty-row .steps;
     }
 
 -- Six places; the least cost from place 0 to the goal 5 is 6.
 abbrev pub six-places : Guided
 six-places =
     floor-of-lists
-    (spot 4 6 3 false (to 1 2 ∷ to 2 1 ∷ [])
-    ∷ spot 4 5 2 false (to 3 2 ∷ [])
-    ∷ spot 3 8 2 false (to 3 5 ∷ to 4 4 ∷ [])
-    ∷ spot 2 3 1 false (to 5 3 ∷ [])
-    ∷ spot 1 1 1 false (to 5 1 ∷ [])
-    ∷ spot 0 0 0 true [] ∷ [])
+    (row 4 6 3 false (leg-to 1 2 ∷ leg-to 2 1 ∷ [])
+    ∷ row 4 5 2 false (leg-to 3 2 ∷ [])
+    ∷ row 3 8 2 false (leg-to 3 5 ∷ leg-to 4 4 ∷ [])
+    ∷ row 2 3 1 false (leg-to 5 3 ∷ [])
+    ∷ row 1 1 1 false (leg-to 5 1 ∷ [])
+    ∷ row 0 0 0 true [] ∷ [])
 
 -- A leg, barred if it leads to the place.
 abbrev pub unless-into : ℕ → Option Leg → Option Leg
@@ -81,12 +81,12 @@ shut-at place g =
 abbrev pub four-places : Guided
 four-places =
     floor-of-lists
-    (spot 0 0 2 false (to 1 5 ∷ to 2 1 ∷ []) ∷ spot 0 0 1 false (to 3 10 ∷ []) ∷ spot 0 9 2 false (to 1 1 ∷ []) ∷ spot 0 0 0 true [] ∷ [])
+    (row 0 0 2 false (leg-to 1 5 ∷ leg-to 2 1 ∷ []) ∷ row 0 0 1 false (leg-to 3 10 ∷ []) ∷ row 0 9 2 false (leg-to 1 1 ∷ []) ∷ row 0 0 0 true [] ∷ [])
 
 -- One place that is no goal.
 abbrev pub no-goal : Guided
-no-goal = floor-of-lists (spot 0 0 0 false [] ∷ [])
+no-goal = floor-of-lists (row 0 0 0 false [] ∷ [])
 
 -- One place that is a goal.
 abbrev pub only-goal : Guided
-only-goal = floor-of-lists (spot 0 0 0 true [] ∷ [])
+only-goal = floor-of-lists (row 0 0 0 true [] ∷ [])
