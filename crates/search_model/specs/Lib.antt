@@ -1,0 +1,13 @@
+pub mod Records
+pub mod Choice
+pub mod Expansion
+pub mod Advance
+pub mod Begin
+pub mod Read
+pub mod Fields
+pub mod Ending
+pub mod Costs
+pub mod Guarantee
+pub mod Run
+pub mod SmallFloors
+pub mod Cases
