@@ -40,3 +40,23 @@ pub fn answer(heap: Global, layout: Vec<u8>) -> Result<String, AllocError>
         Err(refused) => refusal(heap, refused.fault.number(), refused.fault.record()),
     }
 }
+
+#[cfg(test)]
+mod tests {
+    use super::*;
+    use std::test::*;
+
+    // What is written of so many zero bytes.
+    fn of_zeros(heap: Global, length: usize) -> Result<String, Fail> {
+        let zeros = vec![in heap; 0u8; length]?;
+        Ok(answer(heap, zeros)?)
+    }
+
+    #[test]
+    fn longest_layout(rt: LibcRuntime) -> Result<(), Fail> {
+        let heap = rt.alloc();
+        check(of_zeros(heap, 16_384)?.as_str() == "layout refused 2 at 0")?;
+        check(of_zeros(heap, 16_385)?.as_str() == "layout refused 10 at 1024")?;
+        check(of_zeros(heap, 15)?.as_str() == "layout refused 1 at 0")
+    }
+}
