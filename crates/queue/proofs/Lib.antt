@@ -1,0 +1,4 @@
+pub mod Paths
+pub mod Holes
+pub mod Writes
+pub mod Sifts

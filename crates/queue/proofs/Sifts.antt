@@ -1,0 +1,140 @@
+-- The steps of the two sifting loops.
+use mathlib.Core.Path.{_≡_, refl, sym, ap, subst, _∙_}
+use mathlib.Core.Bool.{Bool, true, false}
+use mathlib.Core.List.{List}
+use mathlib.Core.Logic.{_≢_, _⊎_, ⊎-elim}
+use Prim.Native.Nat.{ℕ, _+_, _*_, _/_, _<_, _≤_}
+use native.Mathlib.Omega.{arith}
+use lib.ListN.{length, getD, set}
+use Rattle.std.specs.shelf.Lists.{sumBy}
+use Rattle.queue.specs.Entries.{entries}
+use Rattle.queue.specs.Heap.{parent-slot}
+use Rattle.queue.specs.Hole.{Holed, FitsAbove, FitsBelow, LeastChild}
+use Rattle.queue.specs.Lens.{Lens}
+use Rattle.queue.specs.Order.{Ordered}
+use Rattle.queue.specs.Path.{OnPath}
+use Rattle.queue.specs.Path.OnPath.{here, above}
+use Rattle.queue.specs.Sift.{entry-at, HoleMoved, Rising, Risen, Sinking, Sunk}
+use Rattle.queue.proofs.Holes.{Written, other-way, holed-up, below-up, holed-down, above-down}
+use Rattle.queue.proofs.Paths.{on-path-le, on-path-trans, on-path-up}
+use Rattle.queue.proofs.Writes.{read-at, written-at, sum-written, frame-none, frame-write}
+
+module _ {R E : Type 0} (le : E → E → Bool) (ord : Ordered le) (get : R → E) (put : R → E → R) (lens : Lens get put) where
+  moved-none : (n : ℕ) (xs : List R) (h : ℕ) → HoleMoved le get n xs h xs h
+  moved-none n xs h = record { sums = λ f d. refl; holed = λ d H. H }
+
+  -- the entry of slot h′ is copied into the hole h, and h′ is the hole now
+  moved-more : (n : ℕ) (xs ys : List R) (k h h′ : ℕ) (r′ : R) (x : E)
+    → HoleMoved le get n xs k ys h → h < n → h′ ≢ h → h′ < length ys → n ≤ length ys
+    → get r′ ≡ x → ((d : E) → entry-at get ys d h′ ≡ x)
+    → ((d : E) → Written (entry-at get ys d) (entry-at get (set ys h r′) d) h (entry-at get ys d h′) → Holed le (entry-at get ys d) n h → Holed le (entry-at get (set ys h r′) d) n h′)
+    → HoleMoved le get n xs k (set ys h r′) h′
+  moved-more n xs ys k h h′ r′ x M l ne l′ ln got e step =
+    let wrote : (d : E) → Written (entry-at get ys d) (entry-at get (set ys h r′) d) h (entry-at get ys d h′)
+      = λ d. written-at get ys h r′ (entry-at get ys d h′) d (omega arith) (got ∙ sym (e d)) in
+    record {
+      sums = λ f d.
+        let same : entry-at get (set ys h r′) d h′ ≡ get r′ = wrote d .others h′ ne ∙ e d ∙ sym got in
+        omega (arith, sum-written get f n ys h r′ d l ln, M .sums f d, ap f same);
+      holed = λ d H. step d (wrote d) (M .holed d H);
+    }
+
+  pub rising-none : (xs : List R) (h : ℕ) (e : E) → Rising le get put xs h e xs h
+  rising-none xs h e = record {
+    on-path = here refl;
+    frame = frame-none get put lens h xs;
+    moved = λ n l ln. moved-none n xs h;
+    below = λ n d l ln H lt. absurd (omega arith);
+    still = λ _. refl;
+  }
+
+  -- the parent's entry x comes down, since it is not at most e
+  pub rising-more : (xs ys : List R) (k h : ℕ) (e x : E) (rp r r′ : R)
+    → Rising le get put xs k e ys h → 0 < h → k < length ys
+    → x ≡ get (getD ys (parent-slot h) rp) → r′ ≡ put (getD ys h r) x → le x e ≡ false
+    → Rising le get put xs k e (set ys h r′) (parent-slot h)
+  rising-more xs ys k h e x rp r r′ I z lk isx w turned =
+    let hk : h ≤ k = on-path-le (I .on-path) in
+    let lp : parent-slot h < length ys = omega arith in
+    let lh : h < length ys = omega arith in
+    let long : length ys ≡ length xs = I .frame .same-length in
+    let par : (d : E) → entry-at get ys d (parent-slot h) ≡ x = λ d. read-at get ys (parent-slot h) rp x d lp isx in
+    let got : get r′ ≡ x = ap get w ∙ lens .put-get (getD ys h r) x in
+    record {
+      on-path = on-path-up z (I .on-path);
+      frame = frame-write get put lens k k h xs ys r r′ x (I .frame) (λ a p. p) (I .on-path) lh w;
+      moved = λ n l ln.
+        moved-more n xs ys k h (parent-slot h) r′ x (I .moved n l ln) (omega arith) (omega arith) lp (omega arith) got par
+          (λ d wr H. holed-up le (entry-at get ys d) (entry-at get (set ys h r′) d) n h z wr ord H (omega arith));
+      below = λ n d l ln H lt.
+        below-up le (entry-at get ys d) (entry-at get (set ys h r′) d) n h e z
+          (written-at get ys h r′ (entry-at get ys d (parent-slot h)) d lh (got ∙ sym (par d)))
+          ord (I .moved n l ln .holed d H) (rw (par d) (other-way le ord x e turned));
+      still = λ eq. absurd (omega arith);
+    }
+
+  pub sinking-none : (n : ℕ) (xs : List R) (h : ℕ) (e : E) → h < n → Sinking le get put n xs h e xs h
+  sinking-none n xs h e l = record {
+    used = l;
+    on-path = here refl;
+    frame = frame-none get put lens h xs;
+    moved = moved-none n xs h;
+    above = λ d up. up;
+  }
+
+  -- the least child's entry x comes up, since e is not at most it
+  pub sinking-more : (n : ℕ) (xs ys : List R) (k h c : ℕ) (e x : E) (rc r r′ : R)
+    → Sinking le get put n xs k e ys h → n ≤ length ys → LeastChild le (entry-at get ys) n h c
+    → x ≡ get (getD ys c rc) → r′ ≡ put (getD ys h r) x → le e x ≡ false
+    → Sinking le get put n xs k e (set ys h r′) c
+  sinking-more n xs ys k h c e x rc r r′ I ln m isx w turned =
+    let lc : c < length ys = omega arith in
+    let lh : h < length ys = omega arith in
+    let par : (d : E) → entry-at get ys d c ≡ x = λ d. read-at get ys c rc x d lc isx in
+    let got : get r′ ≡ x = ap get w ∙ lens .put-get (getD ys h r) x in
+    let step : OnPath h c = above (m .child .0) (here (sym (m .child .1))) in
+    record {
+      used = m .used;
+      on-path = on-path-trans (I .on-path) step;
+      frame = frame-write get put lens h c h xs ys r r′ x (I .frame) (λ a p. on-path-trans p step) step lh w;
+      moved =
+        moved-more n xs ys k h c r′ x (I .moved) (I .used) (omega arith) lc ln got par
+          (λ d wr H. holed-down le (entry-at get ys d) (entry-at get (set ys h r′) d) n h c (m .used) (m .child) (m .least d) wr H);
+      above = λ d up.
+        above-down le (entry-at get ys d) (entry-at get (set ys h r′) d) n h e c (m .child .1)
+          (written-at get ys h r′ (entry-at get ys d c) d lh (got ∙ sym (par d))) (rw (par d) (other-way le ord e x turned));
+    }
+
+  -- at the root there is nothing above
+  pub risen-root : (xs ys : List R) (k h : ℕ) (e : E) → Rising le get put xs k e ys h → h ≤ 0 → Risen le get put xs k e ys h
+  risen-root xs ys k h e I z = record { rising = I; above = λ d zh. absurd (omega arith) }
+
+  -- the parent's entry x is at most e
+  pub risen-fits : (xs ys : List R) (k h : ℕ) (e x : E) (rp : R) → Rising le get put xs k e ys h → parent-slot h < length ys → x ≡ get (getD ys (parent-slot h) rp) → le x e ≡ true → Risen le get put xs k e ys h
+  risen-fits xs ys k h e x rp I l isx small = record { rising = I; above = λ d z. rw (read-at get ys (parent-slot h) rp x d l isx) small }
+
+  -- a slot without children has nothing below
+  pub sunk-leaf : (n : ℕ) (xs ys : List R) (k h : ℕ) (e : E) → Sinking le get put n xs k e ys h → n / 2 ≤ h → Sunk le get put n xs k e ys h
+  sunk-leaf n xs ys k h e I leaf = record { sinking = I; below = λ d i zi li eq. absurd (omega arith) }
+
+  -- e is at most the least child's entry x
+  pub sunk-fits : (n : ℕ) (xs ys : List R) (k h c : ℕ) (e x : E) (rc : R) → Sinking le get put n xs k e ys h → LeastChild le (entry-at get ys) n h c → c < length ys → x ≡ get (getD ys c rc) → le e x ≡ true → Sunk le get put n xs k e ys h
+  sunk-fits n xs ys k h c e x rc I m l isx small = record {
+    sinking = I;
+    below = λ d i zi li eq.
+      ord .trans e x (entry-at get ys d i) small
+        (subst (λ (y : E). le y (entry-at get ys d i) ≡ true) (read-at get ys c rc x d l isx) (m .least d i zi li eq));
+  }
+
+  -- of the two child slots of h, c holds the entry x, o the entry y, and x is at most y
+  pub least-of : (ys : List R) (n h c o : ℕ) (x y : E) (rc ro : R)
+    → x ≡ get (getD ys c rc) → y ≡ get (getD ys o ro) → le x y ≡ true → c < n → o < n → n ≤ length ys → (0 < c) × (parent-slot c ≡ h)
+    → ((i : ℕ) → 0 < i → parent-slot i ≡ h → (i ≡ c) ⊎ (i ≡ o)) → LeastChild le (entry-at get ys) n h c
+  least-of ys n h c o x y rc ro isx isy small lc lo ln child two = record {
+    used = lc;
+    child = child;
+    least = λ d i zi li e. ⊎-elim
+      (λ eq. rw eq (⊎-elim (λ t. t) (λ t. t) (ord .total (entry-at get ys d c) (entry-at get ys d c))))
+      (λ eq. rw (eq, read-at get ys c rc x d (omega arith) isx, read-at get ys o ro y d (omega arith) isy) small)
+      (two i zi e);
+  }

@@ -1,0 +1,9 @@
+pub mod Order
+pub mod Lens
+pub mod Heap
+pub mod Entries
+pub mod Path
+pub mod Hole
+pub mod Frame
+pub mod Sift
+pub mod Keys
