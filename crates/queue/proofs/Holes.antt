@@ -16,8 +16,11 @@ pub record Written {E : Type 0} (f f′ : ℕ → E) (h : ℕ) (x : E) : Type 0 
 
 module _ {E : Type 0} (le : E → E → Bool) where
   -- order carried over to equal entries
-  same-order : {a b a′ b′ : E} → a′ ≡ a → b′ ≡ b → le a b ≡ true → le a′ b′ ≡ true
+  pub same-order : {a b a′ b′ : E} → a′ ≡ a → b′ ≡ b → le a b ≡ true → le a′ b′ ≡ true
   same-order p q h = cc
+
+  pub at-most-self : Ordered le → (x : E) → le x x ≡ true
+  at-most-self ord x = ⊎-elim (λ t. t) (λ t. t) (ord .total x x)
 
   pub other-way : Ordered le → (x y : E) → le x y ≡ false → le y x ≡ true
   other-way ord x y no-way = ⊎-elim (λ h. cc) (λ h. h) (ord .total x y)

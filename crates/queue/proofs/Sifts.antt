@@ -7,17 +7,17 @@ use Prim.Native.Nat.{ℕ, _+_, _*_, _/_, _<_, _≤_}
 use native.Mathlib.Omega.{arith}
 use lib.ListN.{length, getD, set}
 use Rattle.std.specs.shelf.Lists.{sumBy}
-use Rattle.queue.specs.Entries.{entries}
+use Rattle.queue.specs.Entries.{entries, entry-at}
 use Rattle.queue.specs.Heap.{parent-slot}
 use Rattle.queue.specs.Hole.{Holed, FitsAbove, FitsBelow, LeastChild}
 use Rattle.queue.specs.Lens.{Lens}
 use Rattle.queue.specs.Order.{Ordered}
 use Rattle.queue.specs.Path.{OnPath}
 use Rattle.queue.specs.Path.OnPath.{here, above}
-use Rattle.queue.specs.Sift.{entry-at, HoleMoved, Rising, Risen, Sinking, Sunk}
-use Rattle.queue.proofs.Holes.{Written, other-way, holed-up, below-up, holed-down, above-down}
+use Rattle.queue.specs.Sift.{HoleMoved, Rising, Risen, Sinking, Sunk}
+use Rattle.queue.proofs.Holes.{Written, same-order, at-most-self, other-way, holed-up, below-up, holed-down, above-down}
 use Rattle.queue.proofs.Paths.{on-path-le, on-path-trans, on-path-up}
-use Rattle.queue.proofs.Writes.{read-at, written-at, sum-written, frame-none, frame-write}
+use Rattle.queue.proofs.Writes.{written-at, sum-written, frame-none, frame-write}
 
 module _ {R E : Type 0} (le : E → E → Bool) (ord : Ordered le) (get : R → E) (put : R → E → R) (lens : Lens get put) where
   moved-none : (n : ℕ) (xs : List R) (h : ℕ) → HoleMoved le get n xs h xs h
@@ -49,16 +49,15 @@ module _ {R E : Type 0} (le : E → E → Bool) (ord : Ordered le) (get : R → 
   }
 
   -- the parent's entry x comes down, since it is not at most e
-  pub rising-more : (xs ys : List R) (k h : ℕ) (e x : E) (rp r r′ : R)
+  pub rising-more : (xs ys : List R) (k h : ℕ) (e x : E) (r r′ : R)
     → Rising le get put xs k e ys h → 0 < h → k < length ys
-    → x ≡ get (getD ys (parent-slot h) rp) → r′ ≡ put (getD ys h r) x → le x e ≡ false
+    → ((d : E) → entry-at get ys d (parent-slot h) ≡ x) → r′ ≡ put (getD ys h r) x → le x e ≡ false
     → Rising le get put xs k e (set ys h r′) (parent-slot h)
-  rising-more xs ys k h e x rp r r′ I z lk isx w turned =
+  rising-more xs ys k h e x r r′ I z lk par w turned =
     let hk : h ≤ k = on-path-le (I .on-path) in
     let lp : parent-slot h < length ys = omega arith in
     let lh : h < length ys = omega arith in
     let long : length ys ≡ length xs = I .frame .same-length in
-    let par : (d : E) → entry-at get ys d (parent-slot h) ≡ x = λ d. read-at get ys (parent-slot h) rp x d lp isx in
     let got : get r′ ≡ x = ap get w ∙ lens .put-get (getD ys h r) x in
     record {
       on-path = on-path-up z (I .on-path);
@@ -83,14 +82,13 @@ module _ {R E : Type 0} (le : E → E → Bool) (ord : Ordered le) (get : R → 
   }
 
   -- the least child's entry x comes up, since e is not at most it
-  pub sinking-more : (n : ℕ) (xs ys : List R) (k h c : ℕ) (e x : E) (rc r r′ : R)
+  pub sinking-more : (n : ℕ) (xs ys : List R) (k h c : ℕ) (e x : E) (r r′ : R)
     → Sinking le get put n xs k e ys h → n ≤ length ys → LeastChild le (entry-at get ys) n h c
-    → x ≡ get (getD ys c rc) → r′ ≡ put (getD ys h r) x → le e x ≡ false
+    → ((d : E) → entry-at get ys d c ≡ x) → r′ ≡ put (getD ys h r) x → le e x ≡ false
     → Sinking le get put n xs k e (set ys h r′) c
-  sinking-more n xs ys k h c e x rc r r′ I ln m isx w turned =
+  sinking-more n xs ys k h c e x r r′ I ln m par w turned =
     let lc : c < length ys = omega arith in
     let lh : h < length ys = omega arith in
-    let par : (d : E) → entry-at get ys d c ≡ x = λ d. read-at get ys c rc x d lc isx in
     let got : get r′ ≡ x = ap get w ∙ lens .put-get (getD ys h r) x in
     let step : OnPath h c = above (m .child .0) (here (sym (m .child .1))) in
     record {
@@ -110,31 +108,30 @@ module _ {R E : Type 0} (le : E → E → Bool) (ord : Ordered le) (get : R → 
   risen-root xs ys k h e I z = record { rising = I; above = λ d zh. absurd (omega arith) }
 
   -- the parent's entry x is at most e
-  pub risen-fits : (xs ys : List R) (k h : ℕ) (e x : E) (rp : R) → Rising le get put xs k e ys h → parent-slot h < length ys → x ≡ get (getD ys (parent-slot h) rp) → le x e ≡ true → Risen le get put xs k e ys h
-  risen-fits xs ys k h e x rp I l isx small = record { rising = I; above = λ d z. rw (read-at get ys (parent-slot h) rp x d l isx) small }
+  pub risen-fits : (xs ys : List R) (k h : ℕ) (e x : E) → Rising le get put xs k e ys h → ((d : E) → entry-at get ys d (parent-slot h) ≡ x) → le x e ≡ true → Risen le get put xs k e ys h
+  risen-fits xs ys k h e x I par small = record { rising = I; above = λ d z. rw (par d) small }
 
   -- a slot without children has nothing below
   pub sunk-leaf : (n : ℕ) (xs ys : List R) (k h : ℕ) (e : E) → Sinking le get put n xs k e ys h → n / 2 ≤ h → Sunk le get put n xs k e ys h
   sunk-leaf n xs ys k h e I leaf = record { sinking = I; below = λ d i zi li eq. absurd (omega arith) }
 
   -- e is at most the least child's entry x
-  pub sunk-fits : (n : ℕ) (xs ys : List R) (k h c : ℕ) (e x : E) (rc : R) → Sinking le get put n xs k e ys h → LeastChild le (entry-at get ys) n h c → c < length ys → x ≡ get (getD ys c rc) → le e x ≡ true → Sunk le get put n xs k e ys h
-  sunk-fits n xs ys k h c e x rc I m l isx small = record {
+  pub sunk-fits : (n : ℕ) (xs ys : List R) (k h c : ℕ) (e x : E) → Sinking le get put n xs k e ys h → LeastChild le (entry-at get ys) n h c → ((d : E) → entry-at get ys d c ≡ x) → le e x ≡ true → Sunk le get put n xs k e ys h
+  sunk-fits n xs ys k h c e x I m par small = record {
     sinking = I;
     below = λ d i zi li eq.
-      ord .trans e x (entry-at get ys d i) small
-        (subst (λ (y : E). le y (entry-at get ys d i) ≡ true) (read-at get ys c rc x d l isx) (m .least d i zi li eq));
+      ord .trans e x (entry-at get ys d i) small (subst (λ (y : E). le y (entry-at get ys d i) ≡ true) (par d) (m .least d i zi li eq));
   }
 
   -- of the two child slots of h, c holds the entry x, o the entry y, and x is at most y
-  pub least-of : (ys : List R) (n h c o : ℕ) (x y : E) (rc ro : R)
-    → x ≡ get (getD ys c rc) → y ≡ get (getD ys o ro) → le x y ≡ true → c < n → o < n → n ≤ length ys → (0 < c) × (parent-slot c ≡ h)
+  pub least-of : (ys : List R) (n h c o : ℕ) (x y : E)
+    → ((d : E) → entry-at get ys d c ≡ x) → ((d : E) → entry-at get ys d o ≡ y) → le x y ≡ true → c < n → (0 < c) × (parent-slot c ≡ h)
     → ((i : ℕ) → 0 < i → parent-slot i ≡ h → (i ≡ c) ⊎ (i ≡ o)) → LeastChild le (entry-at get ys) n h c
-  least-of ys n h c o x y rc ro isx isy small lc lo ln child two = record {
+  least-of ys n h c o x y isx isy small lc child two = record {
     used = lc;
     child = child;
     least = λ d i zi li e. ⊎-elim
-      (λ eq. rw eq (⊎-elim (λ t. t) (λ t. t) (ord .total (entry-at get ys d c) (entry-at get ys d c))))
-      (λ eq. rw (eq, read-at get ys c rc x d (omega arith) isx, read-at get ys o ro y d (omega arith) isy) small)
+      (λ eq. rw eq (at-most-self le ord (entry-at get ys d c)))
+      (λ eq. same-order le (isx d) (ap (entry-at get ys d) eq ∙ isy d) small)
       (two i zi e);
   }

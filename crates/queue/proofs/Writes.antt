@@ -10,11 +10,10 @@ use Rattle.std.specs.shelf.Lists.{sumBy}
 use Rattle.std.proofs.shelf.Lists.{getD-map, getD-default, length-map}
 use Rattle.std.proofs.shelf.Sums.{sumBy-set}
 use Rattle.std.proofs.shelf.Tests.{cases-eq}
-use Rattle.queue.specs.Entries.{entries}
+use Rattle.queue.specs.Entries.{entries, entry-at}
 use Rattle.queue.specs.Frame.{Frame}
 use Rattle.queue.specs.Lens.{Lens}
 use Rattle.queue.specs.Path.{OnPath}
-use Rattle.queue.specs.Sift.{entry-at}
 use Rattle.queue.proofs.Holes.{Written}
 
 module _ {R E : Type 0} (get : R → E) where

@@ -2,12 +2,16 @@
 use mathlib.Core.Path.{_≡_}
 use mathlib.Core.List.{List, map}
 use Prim.Native.Nat.{ℕ, _+_}
-use lib.ListN.{take}
+use lib.ListN.{take, getD}
 use Rattle.std.specs.shelf.Lists.{sumBy}
 
 -- The entries of a queue of n: those in the first n slots, in the order of the slots.
 abbrev pub entries : {R E : Type 0} → (R → E) → ℕ → List R → List E
 entries entry-of n slots = take n (map entry-of slots)
+
+-- The entry in slot i, and d past the last slot.
+abbrev pub entry-at : {R E : Type 0} → (R → E) → List R → E → ℕ → E
+entry-at entry-of slots d i = getD (map entry-of slots) i d
 
 -- The entries after are those before and e, each as often: every sum over them has grown by e's share.
 abbrev pub Added : {E : Type 0} → E → List E → List E → Type 0

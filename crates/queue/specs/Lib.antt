@@ -3,7 +3,8 @@ pub mod Lens
 pub mod Heap
 pub mod Entries
 pub mod Path
-pub mod Hole
 pub mod Frame
-pub mod Sift
+pub mod Calls
 pub mod Keys
+pub mod Hole
+pub mod Sift

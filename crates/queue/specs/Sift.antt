@@ -1,18 +1,14 @@
 -- What sifting promises: a hole moves along its path, the entries on the way move over by one slot.
 use mathlib.Core.Path.{_≡_}
 use mathlib.Core.Bool.{Bool}
-use mathlib.Core.List.{List, map}
+use mathlib.Core.List.{List}
 use Prim.Native.Nat.{ℕ, _+_, _<_, _≤_}
-use lib.ListN.{length, getD}
+use lib.ListN.{length}
 use Rattle.std.specs.shelf.Lists.{sumBy}
-use Rattle.queue.specs.Entries.{entries}
+use Rattle.queue.specs.Entries.{entries, entry-at}
 use Rattle.queue.specs.Frame.{Frame}
 use Rattle.queue.specs.Hole.{Holed, FitsAbove, FitsBelow}
 use Rattle.queue.specs.Path.{OnPath}
-
--- The entry in each slot, and d past the last.
-abbrev pub entry-at : {R E : Type 0} → (R → E) → List R → E → ℕ → E
-entry-at entry-of slots d i = getD (map entry-of slots) i d
 
 -- The hole moved among the first n slots: all other entries are there as often as before, and a heap with a hole stayed one.
 pub record HoleMoved {R E : Type 0} (at-most : E → E → Bool) (entry-of : R → E) (n : ℕ) (before : List R) (hole : ℕ) (after : List R) (hole′ : ℕ) : Type 0 where

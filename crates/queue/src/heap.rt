@@ -1,16 +1,85 @@
 ghost use mathlib.Core.Path.{_≡_};
-ghost use Prim.Native.Nat.{ℕ, _≤_, _<_, _*_, _+_};
+ghost use Prim.Native.Nat.{ℕ, _≤_, _<_, _*_, _+_, _-_};
 ghost use lib.ListN.{length};
+ghost use Rattle.queue.specs.Calls.{Head, HeadEntry, Inserted, RemovedAt, ReplacedAt};
+ghost use Rattle.queue.specs.Entries.{entry-at};
 ghost use Rattle.queue.specs.Hole.{LeastChild};
-ghost use Rattle.queue.specs.Sift.{entry-at, Risen, Sunk};
+ghost use Rattle.queue.specs.Sift.{Risen, Sunk};
 use crate::order::Ranked;
 use crate::slot::Slot;
 
-// The least entry of a queue of n.
+// The head of a queue of n: its least entry, or none if it is empty.
 pub fn head<Q, R: Slot<Q>>(slots: &[R], n: usize) -> Option<R::Entry>
     requires { ⌜ n ≤ length (now slots) ⌝ }
+    ensures { λ r. ⌜ Head (Entry·Ranked .atMost) entryOf n (now (slots .entry)) r ⌝ }
 {
-    if n == 0 { None } else { Some(slots[0].entry()) }
+    if n == 0 { None } else { Some(first_entry::<Q, R>(slots, n)) }
+}
+
+// Inserts e into a queue of n, and returns the deepest slot that changed.
+pub fn insert<Q, R: Slot<Q>>(slots: &mut [R], n: usize, e: R::Entry) -> usize
+    requires { ⌜ n < length (now slots) ⌝ }
+    ensures { λ r. ⌜ Inserted (Entry·Ranked .atMost) entryOf withEntry n e (now (slots .entry)) r (now (slots .exit)) ⌝ }
+{
+    settle::<Q, R>(slots, n + 1, n, e)
+}
+
+// Removes the entry in slot i of a queue of n, and returns the deepest slot that changed.
+pub fn remove_at<Q, R: Slot<Q>>(slots: &mut [R], n: usize, i: usize) -> usize
+    requires { ⌜ n ≤ length (now slots) ⌝ ∗ ⌜ i < n ⌝ }
+    ensures { λ r. ⌜ RemovedAt (Entry·Ranked .atMost) entryOf withEntry n i (now (slots .entry)) r (now (slots .exit)) ⌝ }
+{
+    let last = slot_entry::<Q, R>(slots, n - 1);
+    close_gap::<Q, R>(slots, n, i, last)
+}
+
+// Replaces the entry in slot i of a queue of n by e, and returns the deepest slot that changed.
+pub fn replace_at<Q, R: Slot<Q>>(slots: &mut [R], n: usize, i: usize, e: R::Entry) -> usize
+    requires { ⌜ n ≤ length (now slots) ⌝ ∗ ⌜ i < n ⌝ }
+    ensures { λ r. ⌜ ReplacedAt (Entry·Ranked .atMost) entryOf withEntry n i e (now (slots .entry)) r (now (slots .exit)) ⌝ }
+{
+    settle::<Q, R>(slots, n, i, e)
+}
+
+// The entry in slot i.
+fn slot_entry<Q, R: Slot<Q>>(slots: &[R], i: usize) -> R::Entry
+    requires { ⌜ i < length (now slots) ⌝ }
+    ensures { λ e. ⌜ ((d : _) → entry-at entryOf (now (slots .entry)) d i ≡ e) ⌝ }
+{
+    slots[i].entry()
+}
+
+// The entry in slot 0, which is the head of a queue of n that is not empty.
+fn first_entry<Q, R: Slot<Q>>(slots: &[R], n: usize) -> R::Entry
+    requires { ⌜ 0 < n ⌝ ∗ ⌜ n ≤ length (now slots) ⌝ }
+    ensures { λ e. ⌜ HeadEntry (Entry·Ranked .atMost) entryOf n (now (slots .entry)) e ⌝ }
+{
+    slot_entry::<Q, R>(slots, 0)
+}
+
+// Puts `last`, the last entry of a queue of n, in the place of the entry in slot i.
+fn close_gap<Q, R: Slot<Q>>(slots: &mut [R], n: usize, i: usize, last: R::Entry) -> usize
+    requires { ⌜ n ≤ length (now slots) ⌝ ∗ ⌜ i < n ⌝ }
+    ensures { λ r. ⌜ (((d : _) → entry-at entryOf (now (slots .entry)) d (n - 1) ≡ last) → RemovedAt (Entry·Ranked .atMost) entryOf withEntry n i (now (slots .entry)) r (now (slots .exit))) ⌝ }
+{
+    if i < n - 1 { settle::<Q, R>(slots, n - 1, i, last) } else { i }
+}
+
+// Writes e where it fits among the first n slots, with the hole in slot i, and returns the deepest slot that changed.
+fn settle<Q, R: Slot<Q>>(slots: &mut [R], n: usize, i: usize, e: R::Entry) -> usize
+    requires { ⌜ n ≤ length (now slots) ⌝ ∗ ⌜ i < n ⌝ }
+    ensures inserted { λ r. ⌜ (n ≡ i + 1 → Inserted (Entry·Ranked .atMost) entryOf withEntry i e (now (slots .entry)) r (now (slots .exit))) ⌝ }
+    ensures replaced { λ r. ⌜ ReplacedAt (Entry·Ranked .atMost) entryOf withEntry n i e (now (slots .entry)) r (now (slots .exit)) ⌝ }
+{
+    let top = sift_up::<Q, R>(slots, i, e);
+    if top < i {
+        slots[top].set_entry(e);
+        i
+    } else {
+        let bottom = sift_down::<Q, R>(slots, n, i, e);
+        slots[bottom].set_entry(e);
+        bottom
+    }
 }
 
 // Moves the hole up while its parent slot's entry is above e, and returns where it ended.
@@ -21,7 +90,7 @@ fn sift_up<Q, R: Slot<Q>>(slots: &mut [R], from: usize, e: R::Entry) -> usize
     let mut hole = from;
     while hole > 0 {
         let parent = (hole - 1) / 2;
-        let above = slots[parent].entry();
+        let above = slot_entry::<Q, R>(slots, parent);
         if above.at_most(&e) {
             break;
         }
@@ -39,8 +108,8 @@ fn least_child<Q, R: Slot<Q>>(slots: &[R], n: usize, hole: usize) -> usize
     let left = 2 * hole + 1;
     let right = left + 1;
     if right < n {
-        let first = slots[left].entry();
-        let second = slots[right].entry();
+        let first = slot_entry::<Q, R>(slots, left);
+        let second = slot_entry::<Q, R>(slots, right);
         if first.at_most(&second) { left } else { right }
     } else {
         left
@@ -55,7 +124,7 @@ fn sift_down<Q, R: Slot<Q>>(slots: &mut [R], n: usize, from: usize, e: R::Entry)
     let mut hole = from;
     while hole < n / 2 {
         let child = least_child::<Q, R>(slots, n, hole);
-        let below = slots[child].entry();
+        let below = slot_entry::<Q, R>(slots, child);
         if e.at_most(&below) {
             break;
         }

@@ -1,5 +1,5 @@
 use native.Mathlib.Omega.{arith}
-use mathlib.Core.Path.{sym, _∙_}
+use mathlib.Core.Path.{_≡_, sym, ap, _∙_}
 use mathlib.Core.Logic.{_⊎_, inl, inr, ⊎-elim}
 use Prim.Native.Nat.{ℕ, _+_, _*_, _<_}
 use Rattle.std.proofs.shelf.Tests.{cases-eq}
@@ -14,13 +14,13 @@ left-or-right h i z e = ⊎-elim inl (λ ne. inr (omega arith)) (cases-eq i (2 *
 
 pub returns-then-at-most : need.returns-then-at-most
 returns-then-at-most g c =
-  least-of (g .Entry·Ranked .atMost) (g .Entry·Ranked·met .ordered) (g .R·Slot .entryOf) (g .R·Slot .withEntry) (g .R·Slot·met .lens) (c .args .slots .now) (c .args .n) (c .args .hole) _ _ (c .entry-first .result) (c .entry-second .result)
-    (c .index-slots-left .result) (c .index-slots-right .result) (c .entry-first .ensures) (c .entry-second .ensures) (sym (c .at-most .ensures) ∙ c .if-at-most .taken)
-    (omega arith) (omega arith) (c .pre .0) (omega arith, omega arith) (left-or-right (c .args .hole))
+  least-of (g .Entry·Ranked .atMost) (g .Entry·Ranked·met .ordered) (g .R·Slot .entryOf) (g .R·Slot .withEntry) (g .R·Slot·met .lens) (c .args .slots .now) (c .args .n) (c .args .hole) _ _ (c .slot-entry-first .result) (c .slot-entry-second .result)
+    (c .slot-entry-first .ensures) (c .slot-entry-second .ensures) (sym (c .at-most .ensures) ∙ c .if-at-most .taken)
+    (omega arith) (omega arith, omega arith) (left-or-right (c .args .hole))
 
 pub returns-else-at-most : need.returns-else-at-most
 returns-else-at-most g c =
-  least-of (g .Entry·Ranked .atMost) (g .Entry·Ranked·met .ordered) (g .R·Slot .entryOf) (g .R·Slot .withEntry) (g .R·Slot·met .lens) (c .args .slots .now) (c .args .n) (c .args .hole) _ _ (c .entry-second .result) (c .entry-first .result)
-    (c .index-slots-right .result) (c .index-slots-left .result) (c .entry-second .ensures) (c .entry-first .ensures)
+  least-of (g .Entry·Ranked .atMost) (g .Entry·Ranked·met .ordered) (g .R·Slot .entryOf) (g .R·Slot .withEntry) (g .R·Slot·met .lens) (c .args .slots .now) (c .args .n) (c .args .hole) _ _ (c .slot-entry-second .result) (c .slot-entry-first .result)
+    (c .slot-entry-second .ensures) (c .slot-entry-first .ensures)
     (other-way (g .Entry·Ranked .atMost) (g .Entry·Ranked·met .ordered) _ _ (sym (c .at-most .ensures) ∙ c .if-at-most .left))
-    (omega arith) (omega arith) (c .pre .0) (omega arith, omega arith) (λ i z e. ⊎-elim inr inl (left-or-right (c .args .hole) i z e))
+    (omega arith) (omega arith, omega arith) (λ i z e. ⊎-elim inr inl (left-or-right (c .args .hole) i z e))

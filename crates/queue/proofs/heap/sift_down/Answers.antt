@@ -9,14 +9,14 @@ loop-hole-holds g c = (c .pre .1, sinking-none (g .Entry·Ranked .atMost) (g .En
 pub loop-hole-again : need.loop-hole-again
 loop-hole-again g c = (
   c .least-child-child .ensures .used,
-  sinking-more (g .Entry·Ranked .atMost) (g .Entry·Ranked·met .ordered) (g .R·Slot .entryOf) (g .R·Slot .withEntry) (g .R·Slot·met .lens) (c .args .n) (c .args .slots .now) (c .loop-hole .slots) (c .args .from) (c .loop-hole .hole) (c .least-child-child .result) (c .args .e) (c .entry-below .result)
-    (c .index-slots-child .result) (c .index-slots-hole .result) (c .set-entry .last .self)
-    (c .loop-hole .inv .1) (omega arith) (c .least-child-child .ensures) (c .entry-below .ensures) (c .set-entry .ensures) (sym (c .at-most .ensures) ∙ c .if-at-most .left))
+  sinking-more (g .Entry·Ranked .atMost) (g .Entry·Ranked·met .ordered) (g .R·Slot .entryOf) (g .R·Slot .withEntry) (g .R·Slot·met .lens) (c .args .n) (c .args .slots .now) (c .loop-hole .slots) (c .args .from) (c .loop-hole .hole) (c .least-child-child .result) (c .args .e) (c .slot-entry-below .result)
+    (c .index-slots-hole .result) (c .set-entry .last .self)
+    (c .loop-hole .inv .1) (omega arith) (c .least-child-child .ensures) (c .slot-entry-below .ensures) (c .set-entry .ensures) (sym (c .at-most .ensures) ∙ c .if-at-most .left))
 
 pub returns-then-at-most : need.returns-then-at-most
 returns-then-at-most g c =
-  sunk-fits (g .Entry·Ranked .atMost) (g .Entry·Ranked·met .ordered) (g .R·Slot .entryOf) (g .R·Slot .withEntry) (g .R·Slot·met .lens) (c .args .n) (c .args .slots .now) (c .loop-hole .slots) (c .args .from) (c .loop-hole .hole) (c .least-child-child .result) (c .args .e) (c .entry-below .result)
-    (c .index-slots-child .result) (c .loop-hole .inv .1) (c .least-child-child .ensures) (omega arith) (c .entry-below .ensures) (sym (c .at-most .ensures) ∙ c .if-at-most .taken)
+  sunk-fits (g .Entry·Ranked .atMost) (g .Entry·Ranked·met .ordered) (g .R·Slot .entryOf) (g .R·Slot .withEntry) (g .R·Slot·met .lens) (c .args .n) (c .args .slots .now) (c .loop-hole .slots) (c .args .from) (c .loop-hole .hole) (c .least-child-child .result) (c .args .e) (c .slot-entry-below .result)
+    (c .loop-hole .inv .1) (c .least-child-child .ensures) (c .slot-entry-below .ensures) (sym (c .at-most .ensures) ∙ c .if-at-most .taken)
 
 pub returns-after-loop-hole : need.returns-after-loop-hole
 returns-after-loop-hole g c =

@@ -12,14 +12,14 @@ loop-hole-holds g c = (c .pre, rising-none (g .Entry·Ranked .atMost) (g .Entry�
 pub loop-hole-again : need.loop-hole-again
 loop-hole-again g c = (
   simp length-set (omega arith),
-  rising-more (g .Entry·Ranked .atMost) (g .Entry·Ranked·met .ordered) (g .R·Slot .entryOf) (g .R·Slot .withEntry) (g .R·Slot·met .lens) (c .args .slots .now) (c .loop-hole .slots) (c .args .from) (c .loop-hole .hole) (c .args .e) (c .entry-above .result)
-    (c .index-slots-parent .result) (c .index-slots-hole .result) (c .set-entry .last .self)
-    (c .loop-hole .inv .1) (omega arith) (omega arith) (c .entry-above .ensures) (c .set-entry .ensures) (sym (c .at-most .ensures) ∙ c .if-at-most .left))
+  rising-more (g .Entry·Ranked .atMost) (g .Entry·Ranked·met .ordered) (g .R·Slot .entryOf) (g .R·Slot .withEntry) (g .R·Slot·met .lens) (c .args .slots .now) (c .loop-hole .slots) (c .args .from) (c .loop-hole .hole) (c .args .e) (c .slot-entry-above .result)
+    (c .index-slots-hole .result) (c .set-entry .last .self)
+    (c .loop-hole .inv .1) (omega arith) (omega arith) (c .slot-entry-above .ensures) (c .set-entry .ensures) (sym (c .at-most .ensures) ∙ c .if-at-most .left))
 
 pub returns-then-at-most : need.returns-then-at-most
 returns-then-at-most g c =
-  risen-fits (g .Entry·Ranked .atMost) (g .Entry·Ranked·met .ordered) (g .R·Slot .entryOf) (g .R·Slot .withEntry) (g .R·Slot·met .lens) (c .args .slots .now) (c .loop-hole .slots) (c .args .from) (c .loop-hole .hole) (c .args .e) (c .entry-above .result)
-    (c .index-slots-parent .result) (c .loop-hole .inv .1) (omega arith) (c .entry-above .ensures) (sym (c .at-most .ensures) ∙ c .if-at-most .taken)
+  risen-fits (g .Entry·Ranked .atMost) (g .Entry·Ranked·met .ordered) (g .R·Slot .entryOf) (g .R·Slot .withEntry) (g .R·Slot·met .lens) (c .args .slots .now) (c .loop-hole .slots) (c .args .from) (c .loop-hole .hole) (c .args .e) (c .slot-entry-above .result)
+    (c .loop-hole .inv .1) (c .slot-entry-above .ensures) (sym (c .at-most .ensures) ∙ c .if-at-most .taken)
 
 pub returns-after-loop-hole : need.returns-after-loop-hole
 returns-after-loop-hole g c =

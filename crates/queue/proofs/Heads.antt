@@ -1,0 +1,36 @@
+-- The entry in slot 0 of a heap is at most every entry.
+use mathlib.Core.Path.{_≡_, refl, sym, ap, _∙_}
+use mathlib.Core.Bool.{Bool, true}
+use mathlib.Core.List.{List}
+use mathlib.Core.Logic.{⊎-elim}
+use Prim.Native.Nat.{ℕ, zero, suc, _<_, _≤_}
+use native.Mathlib.Omega.{arith}
+use lib.ListN.{length, getD}
+use Rattle.std.proofs.shelf.Tests.{cases-eq}
+use Rattle.queue.specs.Calls.{HeadEntry}
+use Rattle.queue.specs.Entries.{entries, entry-at}
+use Rattle.queue.specs.Heap.{Heap, parent-slot}
+use Rattle.queue.specs.Order.{Ordered}
+use Rattle.queue.proofs.Settles.{heap-at}
+use Rattle.queue.proofs.Holes.{at-most-self}
+
+-- entries as a function of the slot: by steps up to the root
+root-least : {E : Type 0} (le : E → E → Bool) → Ordered le → (at : ℕ → E) (n : ℕ) → ((i : ℕ) → 0 < i → i < n → le (at (parent-slot i)) (at i) ≡ true)
+  → (bound i : ℕ) → i < bound → i < n → le (at 0) (at i) ≡ true
+root-least le ord at n H zero i l ln = absurd (omega arith)
+root-least le ord at n H (suc b) i l ln = ⊎-elim
+  (λ z. rw z (at-most-self le ord (at 0)))
+  (λ nz. ord .trans _ _ _ (root-least le ord at n H b (parent-slot i) (omega arith) (omega arith)) (H i (omega arith) ln))
+  (cases-eq i 0)
+
+-- the first entry of a heap is at most every entry
+pub heap-least : {E : Type 0} (le : E → E → Bool) → Ordered le → (es : List E) → Heap le es → (d : E) (i : ℕ) → i < length es → le (getD es 0 d) (getD es i d) ≡ true
+heap-least le ord es H d i l = root-least le ord (λ j. getD es j d) (length es) (H d) (length es) i l l
+
+module _ {R E : Type 0} (get : R → E) (le : E → E → Bool) (ord : Ordered le) where
+  pub head-of : (n : ℕ) (xs : List R) (e : E) → 0 < n → n ≤ length xs → ((d : E) → entry-at get xs d 0 ≡ e) → HeadEntry le get n xs e
+  head-of n xs e z ln first = record {
+    used = z;
+    stands = first;
+    least = λ H d i l. rw (sym (first d)) (root-least le ord (entry-at get xs d) n (heap-at get le n xs ln H d) n i l l);
+  }
