@@ -1,17 +1,18 @@
 -- The entry in slot 0 of a heap is at most every entry.
-use mathlib.Core.Path.{_≡_, refl, sym, ap, _∙_}
+use mathlib.Core.Path.{_≡_, subst, _∙_}
 use mathlib.Core.Bool.{Bool, true}
-use mathlib.Core.List.{List}
+use mathlib.Core.List.{List, map}
 use mathlib.Core.Logic.{⊎-elim}
 use Prim.Native.Nat.{ℕ, zero, suc, _<_, _≤_}
 use native.Mathlib.Omega.{arith}
-use lib.ListN.{length, getD}
+use lib.ListN.{length, getD, length-take}
 use Rattle.std.proofs.shelf.Tests.{cases-eq}
 use Rattle.queue.specs.Calls.{HeadEntry}
 use Rattle.queue.specs.Entries.{entries, entry-at}
 use Rattle.queue.specs.Heap.{Heap, parent-slot}
 use Rattle.queue.specs.Order.{Ordered}
-use Rattle.queue.proofs.Settles.{heap-at}
+use lib.Seq.{getD-take}
+use Rattle.std.proofs.shelf.Lists.{length-map}
 use Rattle.queue.proofs.Holes.{at-most-self}
 
 -- entries as a function of the slot: by steps up to the root
@@ -28,9 +29,12 @@ pub heap-least : {E : Type 0} (le : E → E → Bool) → Ordered le → (es : L
 heap-least le ord es H d i l = root-least le ord (λ j. getD es j d) (length es) (H d) (length es) i l l
 
 module _ {R E : Type 0} (get : R → E) (le : E → E → Bool) (ord : Ordered le) where
-  pub head-of : (n : ℕ) (xs : List R) (e : E) → 0 < n → n ≤ length xs → ((d : E) → entry-at get xs d 0 ≡ e) → HeadEntry le get n xs e
-  head-of n xs e z ln first = record {
-    used = z;
-    stands = first;
-    least = λ H d i l. rw (sym (first d)) (root-least le ord (entry-at get xs d) n (heap-at get le n xs ln H d) n i l l);
-  }
+  pub head-of : (n : ℕ) (xs : List R) (e : E) → 0 < n → n ≤ length xs → ((d : E) → entry-at get xs d 0 ≡ e) → HeadEntry le n (entries get n xs) e
+  head-of n xs e z ln first =
+    let stands : (d : E) → getD (entries get n xs) 0 d ≡ e = λ d. getD-take n (map get xs) 0 d z ∙ first d in
+    let long : length (entries get n xs) ≡ n = omega (arith, length-take n (map get xs), length-map xs get) in
+    record {
+      used = z;
+      stands = stands;
+      least = λ H d i l. subst (λ (x : E). le x (getD (entries get n xs) i d) ≡ true) (stands d) (heap-least le ord (entries get n xs) H d i (omega arith));
+    }

@@ -2,7 +2,7 @@
 use mathlib.Core.Path.{_≡_, refl, sym, ap, subst, _∙_}
 use mathlib.Core.Bool.{Bool, true}
 use mathlib.Core.List.{List, map}
-use Prim.Native.Nat.{ℕ, _+_, _-_, _<_, _≤_}
+use Prim.Native.Nat.{ℕ, _+_, _<_, _≤_}
 use native.Mathlib.Omega.{arith}
 use lib.ListN.{length, getD, set, take, length-take}
 use lib.Seq.{getD-take}
@@ -11,7 +11,7 @@ use Rattle.std.proofs.shelf.Lists.{length-map}
 use Rattle.std.proofs.shelf.Sums.{sumBy-more}
 use Rattle.queue.specs.Calls.{Inserted, RemovedAt, ReplacedAt}
 use Rattle.queue.specs.Entries.{entries, entry-at, Added, Removed, Replaced}
-use Rattle.queue.specs.Frame.{Frame}
+use Rattle.queue.specs.Frame.{Frame, SameFrom}
 use Rattle.queue.specs.Heap.{Heap, parent-slot}
 use Rattle.queue.specs.Hole.{Holed, FitsAbove, FitsBelow}
 use Rattle.queue.specs.Lens.{Lens}
@@ -95,58 +95,52 @@ module _ {R E : Type 0} (get : R → E) where
       settled-by n i bottom bottom e xs zs r r′ (on-path-le (S .on-path)) (S .used) (omega (arith, S .frame .same-length)) (S .frame) (here refl) (S .moved)
         (λ d H. (S .above d (up d), D′ .below d)) w
 
-    -- a queue of n has its hole at the end
+    -- a queue of i has its hole at the end
     holed-end : (n i : ℕ) (xs : List R) → n ≡ i + 1 → i ≤ length xs → Heap le (entries get i xs) → (d : E) → Holed le (entry-at get xs d) n i
     holed-end n i xs e l H d = record {
       clear = λ j z lj ne np. heap-at le i xs l H d j z (omega arith);
       across = λ j z lj zi eq. absurd (omega arith);
     }
 
-    pub inserted-by : (n i : ℕ) (e : E) (before : List R) (k : ℕ) (after : List R) → n ≤ length before → Settled n i e before k after → n ≡ i + 1 → Inserted le get put i e before k after
+    pub inserted-by : (n i : ℕ) (e : E) (before : List R) (k : ℕ) (after : List R) → n ≤ length before → Settled n i e before k after → n ≡ i + 1
+      → Inserted le e (entries get i before) (entries get n after)
     inserted-by n i e before k after ln S eq = record {
-      lowest = omega arith;
       change = λ f.
-        let s : sumBy f (entries get n after) ≡ sumBy f (entries get (i + 1) after) = ap (λ (m : ℕ). sumBy f (entries get m after)) eq in
         let t : sumBy f (entries get n before) ≡ sumBy f (entries get (i + 1) before) = ap (λ (m : ℕ). sumBy f (entries get m before)) eq in
-        omega (arith, S .change e f, sum-last f i before e (omega arith), s, t);
-      heap = λ H. subst (λ (m : ℕ). Heap le (entries get m after)) eq (S .heap (holed-end n i before eq (omega arith) H));
-      frame = S .frame;
+        omega (arith, S .change e f, sum-last f i before e (omega arith), t);
+      heap = λ H. S .heap (holed-end n i before eq (omega arith) H);
     }
 
-    pub replaced-by : (n i : ℕ) (e : E) (before : List R) (k : ℕ) (after : List R) → n ≤ length before → i < n → Settled n i e before k after → ReplacedAt le get put n i e before k after
+    pub replaced-by : (n i : ℕ) (e : E) (before : List R) (k : ℕ) (after : List R) → n ≤ length before → i < n → Settled n i e before k after
+      → ReplacedAt le i e (entries get n before) (entries get n after)
     replaced-by n i e before k after ln l S = record {
-      used = S .used;
-      change = S .change;
+      change = λ d f. rw (getD-take n (map get before) i d l) (S .change d f);
       heap = λ H. S .heap (λ d. opened le (entry-at get before d) (entry-at get before d) n i ord (heap-at le n before ln H d) l);
-      frame = S .frame;
     }
 
     -- the last entry e took the place of the one in slot i
-    pub removed-by : (m n i : ℕ) (e : E) (before : List R) (k : ℕ) (after : List R) → m ≡ n + 1 → m ≤ length before → ((d : E) → entry-at get before d n ≡ e)
-      → ReplacedAt le get put n i e before k after → RemovedAt le get put m i before k after
-    removed-by m n i e before k after eq lm ise S =
-      let less : m - 1 ≡ n = omega arith in
-      record {
-        used = omega (arith, S .used);
-        change = λ d f.
-          let t : sumBy f (entries get m before) ≡ sumBy f (entries get (n + 1) before) = ap (λ (j : ℕ). sumBy f (entries get j before)) eq in
-          let s : sumBy f (entries get (m - 1) after) ≡ sumBy f (entries get n after) = ap (λ (j : ℕ). sumBy f (entries get j after)) less in
-          omega (arith, S .change d f, sum-last f n before d (omega arith), s, t, ap f (ise d));
-        heap = λ H. subst (λ (j : ℕ). Heap le (entries get j after)) (sym less) (S .heap (heap-fewer le m n before (omega arith) lm H));
-        frame = S .frame;
-      }
+    pub removed-by : (m n i : ℕ) (e : E) (before after : List R) → m ≡ n + 1 → m ≤ length before → i < n → ((d : E) → entry-at get before d n ≡ e)
+      → ReplacedAt le i e (entries get n before) (entries get n after) → RemovedAt le i (entries get m before) (entries get n after)
+    removed-by m n i e before after eq lm l ise S = record {
+      change = λ d f.
+        let t : sumBy f (entries get m before) ≡ sumBy f (entries get (n + 1) before) = ap (λ (j : ℕ). sumBy f (entries get j before)) eq in
+        let old : getD (entries get n before) i d ≡ getD (entries get m before) i d
+          = getD-take n (map get before) i d l ∙ sym (getD-take m (map get before) i d (omega arith)) in
+        omega (arith, S .change d f, sum-last f n before d (omega arith), t, ap f (ise d), ap f old);
+      heap = λ H. S .heap (heap-fewer le m n before (omega arith) lm H);
+    }
 
     -- the entry in the last slot goes
-    pub removed-last : (m n i : ℕ) (before : List R) → m ≡ n + 1 → m ≤ length before → i ≡ n → RemovedAt le get put m i before i before
-    removed-last m n i before eq lm at-end =
-      let less : m - 1 ≡ n = omega arith in
-      record {
-        used = omega arith;
-        change = λ d f.
-          let t : sumBy f (entries get m before) ≡ sumBy f (entries get (n + 1) before) = ap (λ (j : ℕ). sumBy f (entries get j before)) eq in
-          let s : sumBy f (entries get (m - 1) before) ≡ sumBy f (entries get n before) = ap (λ (j : ℕ). sumBy f (entries get j before)) less in
-          let u : f (entry-at get before d i) ≡ f (entry-at get before d n) = ap (λ (j : ℕ). f (entry-at get before d j)) at-end in
-          omega (arith, sum-last f n before d (omega arith), s, t, u);
-        heap = λ H. heap-fewer le m (m - 1) before (omega arith) lm H;
-        frame = frame-none get put lens i before;
-      }
+    pub removed-last : (m n i : ℕ) (before : List R) → m ≡ n + 1 → m ≤ length before → i ≡ n → RemovedAt le i (entries get m before) (entries get n before)
+    removed-last m n i before eq lm at-end = record {
+      change = λ d f.
+        let t : sumBy f (entries get m before) ≡ sumBy f (entries get (n + 1) before) = ap (λ (j : ℕ). sumBy f (entries get j before)) eq in
+        let old : getD (entries get m before) i d ≡ entry-at get before d n
+          = getD-take m (map get before) i d (omega arith) ∙ ap (entry-at get before d) at-end in
+        omega (arith, sum-last f n before d (omega arith), t, ap f old);
+      heap = λ H. heap-fewer le m n before (omega arith) lm H;
+    }
+
+    -- what stands past the deepest slot is as it was
+    pub frame-from : (k n : ℕ) (before after : List R) → Frame get put k before after → k < n → SameFrom n before after
+    frame-from k n before after F l d a la = F .off-path d a (λ p. absurd (omega (arith, on-path-le p)))

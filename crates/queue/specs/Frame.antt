@@ -1,7 +1,7 @@
 -- What a queue call leaves alone.
 use mathlib.Core.Path.{_≡_}
 use mathlib.Core.List.{List}
-use Prim.Native.Nat.{ℕ}
+use Prim.Native.Nat.{ℕ, _≤_}
 use lib.ListN.{length, getD}
 use Rattle.queue.specs.Path.{OnPath}
 
@@ -10,3 +10,7 @@ pub record Frame {R E : Type 0} (entry-of : R → E) (with-entry : R → E → R
   pub same-length : length after ≡ length before
   pub off-path : (d : R) (a : ℕ) → (OnPath a deepest → ⊥) → getD after a d ≡ getD before a d
   pub only-entry : (d : R) (a : ℕ) → getD after a d ≡ with-entry (getD before a d) (entry-of (getD after a d))
+
+-- The records from slot n on are as they were.
+abbrev pub SameFrom : {R : Type 0} → ℕ → List R → List R → Type 0
+SameFrom {R} n before after = (d : R) (a : ℕ) → n ≤ a → getD after a d ≡ getD before a d

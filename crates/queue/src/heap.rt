@@ -2,7 +2,8 @@ ghost use mathlib.Core.Path.{_≡_};
 ghost use Prim.Native.Nat.{ℕ, _≤_, _<_, _*_, _+_, _-_};
 ghost use lib.ListN.{length};
 ghost use Rattle.queue.specs.Calls.{Head, HeadEntry, Inserted, RemovedAt, ReplacedAt};
-ghost use Rattle.queue.specs.Entries.{entry-at};
+ghost use Rattle.queue.specs.Entries.{entries, entry-at};
+ghost use Rattle.queue.specs.Frame.{Frame, SameFrom};
 ghost use Rattle.queue.specs.Hole.{LeastChild};
 ghost use Rattle.queue.specs.Sift.{Risen, Sunk};
 use crate::order::Ranked;
@@ -11,7 +12,7 @@ use crate::slot::Slot;
 // The head of a queue of n: its least entry, or none if it is empty.
 pub fn head<Q, R: Slot<Q>>(slots: &[R], n: usize) -> Option<R::Entry>
     requires { ⌜ n ≤ length (now slots) ⌝ }
-    ensures { λ r. ⌜ Head (Entry·Ranked .atMost) entryOf n (now (slots .entry)) r ⌝ }
+    ensures { λ r. ⌜ Head (Entry·Ranked .atMost) n (entries entryOf n (now (slots .entry))) r ⌝ }
 {
     if n == 0 { None } else { Some(first_entry::<Q, R>(slots, n)) }
 }
@@ -19,7 +20,9 @@ pub fn head<Q, R: Slot<Q>>(slots: &[R], n: usize) -> Option<R::Entry>
 // Inserts e into a queue of n, and returns the deepest slot that changed.
 pub fn insert<Q, R: Slot<Q>>(slots: &mut [R], n: usize, e: R::Entry) -> usize
     requires { ⌜ n < length (now slots) ⌝ }
-    ensures { λ r. ⌜ Inserted (Entry·Ranked .atMost) entryOf withEntry n e (now (slots .entry)) r (now (slots .exit)) ⌝ }
+    ensures queue { λ _. ⌜ Inserted (Entry·Ranked .atMost) e (entries entryOf n (now (slots .entry))) (entries entryOf (n + 1) (now (slots .exit))) ⌝ }
+    ensures frame { λ r. ⌜ Frame entryOf withEntry r (now (slots .entry)) (now (slots .exit)) ⌝ }
+    ensures deepest { λ r. ⌜ r ≡ n ⌝ }
 {
     settle::<Q, R>(slots, n + 1, n, e)
 }
@@ -27,7 +30,10 @@ pub fn insert<Q, R: Slot<Q>>(slots: &mut [R], n: usize, e: R::Entry) -> usize
 // Removes the entry in slot i of a queue of n, and returns the deepest slot that changed.
 pub fn remove_at<Q, R: Slot<Q>>(slots: &mut [R], n: usize, i: usize) -> usize
     requires { ⌜ n ≤ length (now slots) ⌝ ∗ ⌜ i < n ⌝ }
-    ensures { λ r. ⌜ RemovedAt (Entry·Ranked .atMost) entryOf withEntry n i (now (slots .entry)) r (now (slots .exit)) ⌝ }
+    ensures queue { λ _. ⌜ RemovedAt (Entry·Ranked .atMost) i (entries entryOf n (now (slots .entry))) (entries entryOf (n - 1) (now (slots .exit))) ⌝ }
+    ensures frame { λ r. ⌜ Frame entryOf withEntry r (now (slots .entry)) (now (slots .exit)) ⌝ }
+    ensures deepest { λ r. ⌜ r ≤ n - 2 ⌝ }
+    ensures beyond { λ _. ⌜ SameFrom (n - 1) (now (slots .entry)) (now (slots .exit)) ⌝ }
 {
     let last = slot_entry::<Q, R>(slots, n - 1);
     close_gap::<Q, R>(slots, n, i, last)
@@ -36,7 +42,9 @@ pub fn remove_at<Q, R: Slot<Q>>(slots: &mut [R], n: usize, i: usize) -> usize
 // Replaces the entry in slot i of a queue of n by e, and returns the deepest slot that changed.
 pub fn replace_at<Q, R: Slot<Q>>(slots: &mut [R], n: usize, i: usize, e: R::Entry) -> usize
     requires { ⌜ n ≤ length (now slots) ⌝ ∗ ⌜ i < n ⌝ }
-    ensures { λ r. ⌜ ReplacedAt (Entry·Ranked .atMost) entryOf withEntry n i e (now (slots .entry)) r (now (slots .exit)) ⌝ }
+    ensures queue { λ _. ⌜ ReplacedAt (Entry·Ranked .atMost) i e (entries entryOf n (now (slots .entry))) (entries entryOf n (now (slots .exit))) ⌝ }
+    ensures frame { λ r. ⌜ Frame entryOf withEntry r (now (slots .entry)) (now (slots .exit)) ⌝ }
+    ensures deepest { λ r. ⌜ r < n ⌝ }
 {
     settle::<Q, R>(slots, n, i, e)
 }
@@ -52,7 +60,7 @@ fn slot_entry<Q, R: Slot<Q>>(slots: &[R], i: usize) -> R::Entry
 // The entry in slot 0, which is the head of a queue of n that is not empty.
 fn first_entry<Q, R: Slot<Q>>(slots: &[R], n: usize) -> R::Entry
     requires { ⌜ 0 < n ⌝ ∗ ⌜ n ≤ length (now slots) ⌝ }
-    ensures { λ e. ⌜ HeadEntry (Entry·Ranked .atMost) entryOf n (now (slots .entry)) e ⌝ }
+    ensures { λ e. ⌜ HeadEntry (Entry·Ranked .atMost) n (entries entryOf n (now (slots .entry))) e ⌝ }
 {
     slot_entry::<Q, R>(slots, 0)
 }
@@ -60,16 +68,21 @@ fn first_entry<Q, R: Slot<Q>>(slots: &[R], n: usize) -> R::Entry
 // Puts `last`, the last entry of a queue of n, in the place of the entry in slot i.
 fn close_gap<Q, R: Slot<Q>>(slots: &mut [R], n: usize, i: usize, last: R::Entry) -> usize
     requires { ⌜ n ≤ length (now slots) ⌝ ∗ ⌜ i < n ⌝ }
-    ensures { λ r. ⌜ (((d : _) → entry-at entryOf (now (slots .entry)) d (n - 1) ≡ last) → RemovedAt (Entry·Ranked .atMost) entryOf withEntry n i (now (slots .entry)) r (now (slots .exit))) ⌝ }
+    ensures queue { λ _. ⌜ (((d : _) → entry-at entryOf (now (slots .entry)) d (n - 1) ≡ last) → RemovedAt (Entry·Ranked .atMost) i (entries entryOf n (now (slots .entry))) (entries entryOf (n - 1) (now (slots .exit)))) ⌝ }
+    ensures frame { λ r. ⌜ Frame entryOf withEntry r (now (slots .entry)) (now (slots .exit)) ⌝ }
+    ensures deepest { λ r. ⌜ r ≤ n - 2 ⌝ }
+    ensures beyond { λ _. ⌜ SameFrom (n - 1) (now (slots .entry)) (now (slots .exit)) ⌝ }
 {
-    if i < n - 1 { settle::<Q, R>(slots, n - 1, i, last) } else { i }
+    if i < n - 1 { settle::<Q, R>(slots, n - 1, i, last) } else { 0 }
 }
 
 // Writes e where it fits among the first n slots, with the hole in slot i, and returns the deepest slot that changed.
 fn settle<Q, R: Slot<Q>>(slots: &mut [R], n: usize, i: usize, e: R::Entry) -> usize
     requires { ⌜ n ≤ length (now slots) ⌝ ∗ ⌜ i < n ⌝ }
-    ensures inserted { λ r. ⌜ (n ≡ i + 1 → Inserted (Entry·Ranked .atMost) entryOf withEntry i e (now (slots .entry)) r (now (slots .exit))) ⌝ }
-    ensures replaced { λ r. ⌜ ReplacedAt (Entry·Ranked .atMost) entryOf withEntry n i e (now (slots .entry)) r (now (slots .exit)) ⌝ }
+    ensures inserted { λ _. ⌜ (n ≡ i + 1 → Inserted (Entry·Ranked .atMost) e (entries entryOf i (now (slots .entry))) (entries entryOf n (now (slots .exit)))) ⌝ }
+    ensures replaced { λ _. ⌜ ReplacedAt (Entry·Ranked .atMost) i e (entries entryOf n (now (slots .entry))) (entries entryOf n (now (slots .exit))) ⌝ }
+    ensures frame { λ r. ⌜ Frame entryOf withEntry r (now (slots .entry)) (now (slots .exit)) ⌝ }
+    ensures deepest { λ r. ⌜ i ≤ r ⌝ ∗ ⌜ r < n ⌝ }
 {
     let top = sift_up::<Q, R>(slots, i, e);
     if top < i {
