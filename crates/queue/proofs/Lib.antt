@@ -4,3 +4,7 @@ pub mod Writes
 pub mod Sifts
 pub mod Settles
 pub mod Heads
+pub mod Members
+pub mod NoteWrites
+pub mod Homes
+pub mod NotesKept

@@ -8,3 +8,5 @@ pub mod Calls
 pub mod Keys
 pub mod Hole
 pub mod Sift
+pub mod Notes
+pub mod Noting
