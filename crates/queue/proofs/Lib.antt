@@ -8,3 +8,4 @@ pub mod Members
 pub mod NoteWrites
 pub mod Homes
 pub mod NotesKept
+pub mod HomedCalls

@@ -50,7 +50,7 @@ pub fn replace_at<Q, R: Slot<Q>>(slots: &mut [R], n: usize, i: usize, e: R::Entr
 }
 
 // The entry in slot i.
-fn slot_entry<Q, R: Slot<Q>>(slots: &[R], i: usize) -> R::Entry
+pub(crate) fn slot_entry<Q, R: Slot<Q>>(slots: &[R], i: usize) -> R::Entry
     requires { ⌜ i < length (now slots) ⌝ }
     ensures { λ e. ⌜ ((d : _) → entry-at entryOf (now (slots .entry)) d i ≡ e) ⌝ }
 {
