@@ -6,6 +6,7 @@ use mathlib.Core.Logic.{⊎-elim}
 use Prim.Native.Nat.{ℕ, zero, suc, _<_, _≤_}
 use native.Mathlib.Omega.{arith}
 use lib.ListN.{length, getD, length-take}
+use Rattle.std.specs.shelf.Lists.{Has}
 use Rattle.std.proofs.shelf.Tests.{cases-eq}
 use Rattle.queue.specs.Calls.{HeadEntry}
 use Rattle.queue.specs.Entries.{entries, entry-at}
@@ -38,3 +39,10 @@ module _ {R E : Type 0} (get : R → E) (le : E → E → Bool) (ord : Ordered l
       stands = stands;
       least = λ H d i l. subst (λ (x : E). le x (getD (entries get n xs) i d) ≡ true) (stands d) (heap-least le ord (entries get n xs) H d i (omega arith));
     }
+
+-- the head of a queue that holds exactly a set is the least of the set
+pub head-of-set : {E : Type 0} (le : E → E → Bool) (n : ℕ) (es : List E) (e : E) (P : E → Type 0) → length es ≡ n → Heap le es → HeadEntry le n es e
+  → ((x : E) → Has es x → P x) → ((x : E) → P x → Has es x) → P e × ((x : E) → P x → le e x ≡ true)
+head-of-set {E} le n es e P long H F holds held = (
+  holds e (0, omega (arith, F .used), F .stands),
+  λ x p. let h = held x p in subst (λ (y : E). le e y ≡ true) (h .2 x) (F .least H x (h .0) (omega (arith, h .1))))

@@ -12,8 +12,8 @@ use Rattle.queue.specs.Calls.{Inserted, RemovedAt, ReplacedAt}
 use Rattle.queue.specs.Entries.{entries, entry-at}
 use Rattle.queue.specs.Frame.{SameFrom}
 use Rattle.queue.specs.Notes.{NotesRight, Absent, Present}
-use Rattle.queue.proofs.Homes.{Homes, some-element, absent-none, homes-added, homes-removed, homes-replaced, homes-noted, within-slots}
-use Rattle.queue.proofs.NotesKept.{same-entry}
+use Rattle.queue.proofs.Homes.{Homes, absent-none, homes-added, homes-removed, homes-replaced, homes-noted, within-slots}
+use Rattle.queue.proofs.Parts.{some-element, same-part}
 
 module _ {R E : Type 0} (home : E → ℕ) (get : R → E) (note : R → ℕ) (le : E → E → Bool) where
   -- the slot that a home notes, by any default
@@ -56,6 +56,6 @@ module _ {R E : Type 0} (home : E → ℕ) (get : R → E) (note : R → ℕ) (l
   path-homes-removed n k xs ys long ln z N same H lk d i l = ⊎-elim
     (λ more. path-homes (n - 1) k xs ys long (omega arith) H (omega arith) d i l)
     (λ one.
-      let kept : entry-at get ys d i ≡ entry-at get xs d i = same-entry get xs ys i long (λ r. same r i (omega arith)) d in
+      let kept : entry-at get ys d i ≡ entry-at get xs d i = same-part get xs ys i long (λ r. ap get (same r i (omega arith))) d in
       omega (arith, ap home kept, N d (some-element xs (omega arith)) i (omega arith) .0))
     (cases-lt 0 (n - 1))

@@ -1,7 +1,7 @@
 -- The homes of the entries of a queue: in range, and each entry's own.
-use mathlib.Core.Path.{_≡_, refl, sym, ap, subst, _∙_}
+use mathlib.Core.Path.{_≡_, sym, ap, subst, _∙_}
 use mathlib.Core.Bool.{Bool, true, false}
-use mathlib.Core.List.{List, [], _∷_, map}
+use mathlib.Core.List.{List, map}
 use mathlib.Core.Logic.{_≢_, ⊎-elim}
 use Prim.Native.Nat.{ℕ, _<_, _≤_}
 use native.Mathlib.Omega.{arith}
@@ -13,12 +13,8 @@ use Rattle.std.proofs.shelf.Tests.{eqb-true, eq-eqb, ne-eqb, leb-false, lt-leb}
 use Rattle.queue.specs.Entries.{entries, entry-at, Added, Removed, Replaced}
 use Rattle.queue.specs.Notes.{NotesRight, Absent}
 use Rattle.queue.specs.Noting.{OwnHomes}
+use Rattle.queue.proofs.Parts.{some-element}
 use Rattle.queue.proofs.Members.{NonePass, OnePasses, none-added, none-removed, none-replaced, one-added, one-removed, one-replaced}
-
--- some element of a list that has one
-pub some-element : {R : Type 0} (xs : List R) → 0 < length xs → R
-some-element [] z = absurd (omega arith)
-some-element (x ∷ xs) z = x
 
 module _ {E : Type 0} (home : E → ℕ) where
   -- the entry names the home x

@@ -4,8 +4,10 @@ pub mod Writes
 pub mod Sifts
 pub mod Settles
 pub mod Heads
+pub mod Parts
 pub mod Members
 pub mod NoteWrites
 pub mod Homes
 pub mod NotesKept
 pub mod HomedCalls
+pub mod Presence

@@ -1,33 +1,17 @@
 -- A queue call, and then the notes along its path: the notes are right again.
-use mathlib.Core.Path.{_≡_, refl, sym, ap, subst, _∙_}
-use mathlib.Core.List.{List, map}
-use mathlib.Core.Logic.{_≢_, ⊎-elim}
+use mathlib.Core.Path.{_≡_, sym, ap, _∙_}
+use mathlib.Core.List.{List}
 use Prim.Native.Nat.{ℕ, _<_, _≤_}
 use native.Mathlib.Omega.{arith}
 use lib.ListN.{length, getD}
-use Rattle.std.proofs.shelf.Lists.{getD-map, getD-past, length-map}
-use Rattle.std.proofs.shelf.Tests.{cases-lt}
 use Rattle.queue.specs.Entries.{entries, entry-at}
 use Rattle.queue.specs.Frame.{Frame}
 use Rattle.queue.specs.Lens.{Lens, Apart}
 use Rattle.queue.specs.Notes.{NotesRight, IndexedFrame}
 use Rattle.queue.specs.Noting.{NoteRight, OwnHomes, Noted}
 use Rattle.queue.specs.Path.{OnPath}
-use Rattle.queue.proofs.Homes.{Homes, some-element, within-slots, own-slots}
-
-module _ {R E : Type 0} (get : R → E) where
-  -- a record that stays keeps its entry
-  pub same-entry : (xs ys : List R) (a : ℕ) → length ys ≡ length xs → ((r : R) → getD ys a r ≡ getD xs a r) → (d : E) → entry-at get ys d a ≡ entry-at get xs d a
-  same-entry xs ys a long same d = ⊎-elim
-    (λ l.
-      let r = some-element xs (omega arith) in
-      let l′ : a < length ys = omega arith in
-      getD-map get ys a r d l′ ∙ ap get (same r) ∙ sym (getD-map get xs a r d l))
-    (λ past.
-      let py : length (map get ys) ≤ a = omega (arith, length-map ys get) in
-      let px : length (map get xs) ≤ a = omega (arith, length-map xs get) in
-      getD-past (map get ys) a d py ∙ sym (getD-past (map get xs) a d px))
-    (cases-lt a (length xs))
+use Rattle.queue.proofs.Homes.{Homes, within-slots, own-slots}
+use Rattle.queue.proofs.Parts.{same-part}
 
 module _ {R E : Type 0} (home : E → ℕ) (get : R → E) (put : R → E → R) (note : R → ℕ) (jot : R → ℕ → R) (jots : Lens note jot) (apart : Apart get put note jot) where
   module _ (k : ℕ) (xs ys zs : List R) (F : Frame get put k xs ys) (N : Noted home get note jot (λ _. ⊥) k ys zs) where
@@ -35,7 +19,7 @@ module _ {R E : Type 0} (home : E → ℕ) (get : R → E) (put : R → E → R)
     noted-entry d i = ap (λ (es : List E). lib.ListN.getD es i d) (N .same-entries)
 
     off-path-entry : (d : E) (i : ℕ) → (OnPath i k → ⊥) → entry-at get ys d i ≡ entry-at get xs d i
-    off-path-entry d i np = same-entry get xs ys i (F .same-length) (λ r. F .off-path r i np) d
+    off-path-entry d i np = same-part get xs ys i (F .same-length) (λ r. ap get (F .off-path r i np)) d
 
     pub indexed-frame : IndexedFrame home get put note jot k xs zs
     indexed-frame = record {
