@@ -19,10 +19,10 @@ use Rattle.queue.proofs.Holes.{at-most-self}
 abbrev pub tally : Bool → ℕ
 tally b = cond b 1 0
 
-tally-true : (b : Bool) → b ≡ true → tally b ≡ 1
+pub tally-true : (b : Bool) → b ≡ true → tally b ≡ 1
 tally-true b t = cond-true b 1 0 t
 
-tally-false : (b : Bool) → b ≡ false → tally b ≡ 0
+pub tally-false : (b : Bool) → b ≡ false → tally b ≡ 0
 tally-false b f = cond-false b 1 0 f
 
 module _ {E : Type 0} (p : E → Bool) where
