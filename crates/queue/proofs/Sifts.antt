@@ -49,11 +49,11 @@ module _ {R E : Type 0} (le : E → E → Bool) (ord : Ordered le) (get : R → 
   }
 
   -- the parent's entry x comes down, since it is not at most e
-  pub rising-more : (xs ys : List R) (k h : ℕ) (e x : E) (r r′ : R)
+  rising-step : (xs ys : List R) (k h : ℕ) (e x : E) (r r′ : R)
     → Rising le get put xs k e ys h → 0 < h → k < length ys
-    → ((d : E) → entry-at get ys d (parent-slot h) ≡ x) → r′ ≡ put (getD ys h r) x → le x e ≡ false
+    → ((d : E) → entry-at get ys d (parent-slot h) ≡ x) → r′ ≡ put (getD ys h r) x → ((d : E) → le (entry-at get ys d (parent-slot h)) e ≡ false)
     → Rising le get put xs k e (set ys h r′) (parent-slot h)
-  rising-more xs ys k h e x r r′ I z lk par w turned =
+  rising-step xs ys k h e x r r′ I z lk par w turned =
     let hk : h ≤ k = on-path-le (I .on-path) in
     let lp : parent-slot h < length ys = omega arith in
     let lh : h < length ys = omega arith in
@@ -68,9 +68,18 @@ module _ {R E : Type 0} (le : E → E → Bool) (ord : Ordered le) (get : R → 
       below = λ n d l ln H lt.
         below-up le (entry-at get ys d) (entry-at get (set ys h r′) d) n h e z
           (written-at get ys h r′ (entry-at get ys d (parent-slot h)) d lh (got ∙ sym (par d)))
-          ord (I .moved n l ln .holed d H) (rw (par d) (other-way le ord x e turned));
+          ord (I .moved n l ln .holed d H) (other-way le ord (entry-at get ys d (parent-slot h)) e (turned d));
       still = λ eq. absurd (omega arith);
     }
+
+  pub rising-more : (xs ys : List R) (k h p : ℕ) (e x : E) (r r′ : R)
+    → Rising le get put xs k e ys h → 0 < h → k < length ys → p ≡ parent-slot h
+    → ((d : E) → entry-at get ys d p ≡ x) → r′ ≡ put (getD ys h r) x → ((d : E) → le (entry-at get ys d p) e ≡ false)
+    → Rising le get put xs k e (set ys h r′) p
+  rising-more xs ys k h p e x r r′ I z lk up par w turned =
+    subst (λ (q : ℕ). Rising le get put xs k e (set ys h r′) q) (sym up)
+      (rising-step xs ys k h e x r r′ I z lk
+        (subst (λ (q : ℕ). (d : E) → entry-at get ys d q ≡ x) up par) w (subst (λ (q : ℕ). (d : E) → le (entry-at get ys d q) e ≡ false) up turned))
 
   pub sinking-none : (n : ℕ) (xs : List R) (h : ℕ) (e : E) → h < n → Sinking le get put n xs h e xs h
   sinking-none n xs h e l = record {
@@ -84,7 +93,7 @@ module _ {R E : Type 0} (le : E → E → Bool) (ord : Ordered le) (get : R → 
   -- the least child's entry x comes up, since e is not at most it
   pub sinking-more : (n : ℕ) (xs ys : List R) (k h c : ℕ) (e x : E) (r r′ : R)
     → Sinking le get put n xs k e ys h → n ≤ length ys → LeastChild le (entry-at get ys) n h c
-    → ((d : E) → entry-at get ys d c ≡ x) → r′ ≡ put (getD ys h r) x → le e x ≡ false
+    → ((d : E) → entry-at get ys d c ≡ x) → r′ ≡ put (getD ys h r) x → ((d : E) → le e (entry-at get ys d c) ≡ false)
     → Sinking le get put n xs k e (set ys h r′) c
   sinking-more n xs ys k h c e x r r′ I ln m par w turned =
     let lc : c < length ys = omega arith in
@@ -100,38 +109,37 @@ module _ {R E : Type 0} (le : E → E → Bool) (ord : Ordered le) (get : R → 
           (λ d wr H. holed-down le (entry-at get ys d) (entry-at get (set ys h r′) d) n h c (m .used) (m .child) (m .least d) wr H);
       above = λ d up.
         above-down le (entry-at get ys d) (entry-at get (set ys h r′) d) n h e c (m .child .1)
-          (written-at get ys h r′ (entry-at get ys d c) d lh (got ∙ sym (par d))) (rw (par d) (other-way le ord e x turned));
+          (written-at get ys h r′ (entry-at get ys d c) d lh (got ∙ sym (par d))) (other-way le ord e (entry-at get ys d c) (turned d));
     }
 
   -- at the root there is nothing above
   pub risen-root : (xs ys : List R) (k h : ℕ) (e : E) → Rising le get put xs k e ys h → h ≤ 0 → Risen le get put xs k e ys h
   risen-root xs ys k h e I z = record { rising = I; above = λ d zh. absurd (omega arith) }
 
-  -- the parent's entry x is at most e
-  pub risen-fits : (xs ys : List R) (k h : ℕ) (e x : E) → Rising le get put xs k e ys h → ((d : E) → entry-at get ys d (parent-slot h) ≡ x) → le x e ≡ true → Risen le get put xs k e ys h
-  risen-fits xs ys k h e x I par small = record { rising = I; above = λ d z. rw (par d) small }
+  -- the parent's entry is at most e
+  pub risen-fits : (xs ys : List R) (k h p : ℕ) (e : E) → Rising le get put xs k e ys h → p ≡ parent-slot h → ((d : E) → le (entry-at get ys d p) e ≡ true) → Risen le get put xs k e ys h
+  risen-fits xs ys k h p e I up small = record { rising = I; above = λ d z. subst (λ (q : ℕ). le (entry-at get ys d q) e ≡ true) up (small d) }
 
   -- a slot without children has nothing below
   pub sunk-leaf : (n : ℕ) (xs ys : List R) (k h : ℕ) (e : E) → Sinking le get put n xs k e ys h → n / 2 ≤ h → Sunk le get put n xs k e ys h
   sunk-leaf n xs ys k h e I leaf = record { sinking = I; below = λ d i zi li eq. absurd (omega arith) }
 
-  -- e is at most the least child's entry x
-  pub sunk-fits : (n : ℕ) (xs ys : List R) (k h c : ℕ) (e x : E) → Sinking le get put n xs k e ys h → LeastChild le (entry-at get ys) n h c → ((d : E) → entry-at get ys d c ≡ x) → le e x ≡ true → Sunk le get put n xs k e ys h
-  sunk-fits n xs ys k h c e x I m par small = record {
+  -- e is at most the least child's entry
+  pub sunk-fits : (n : ℕ) (xs ys : List R) (k h c : ℕ) (e : E) → Sinking le get put n xs k e ys h → LeastChild le (entry-at get ys) n h c → ((d : E) → le e (entry-at get ys d c) ≡ true) → Sunk le get put n xs k e ys h
+  sunk-fits n xs ys k h c e I m small = record {
     sinking = I;
-    below = λ d i zi li eq.
-      ord .trans e x (entry-at get ys d i) small (subst (λ (y : E). le y (entry-at get ys d i) ≡ true) (par d) (m .least d i zi li eq));
+    below = λ d i zi li eq. ord .trans e (entry-at get ys d c) (entry-at get ys d i) (small d) (m .least d i zi li eq);
   }
 
-  -- of the two child slots of h, c holds the entry x, o the entry y, and x is at most y
-  pub least-of : (ys : List R) (n h c o : ℕ) (x y : E)
-    → ((d : E) → entry-at get ys d c ≡ x) → ((d : E) → entry-at get ys d o ≡ y) → le x y ≡ true → c < n → (0 < c) × (parent-slot c ≡ h)
+  -- of the two child slots of h, c holds an entry that is at most the one in o
+  pub least-of : (ys : List R) (n h c o : ℕ)
+    → ((d : E) → le (entry-at get ys d c) (entry-at get ys d o) ≡ true) → c < n → (0 < c) × (parent-slot c ≡ h)
     → ((i : ℕ) → 0 < i → parent-slot i ≡ h → (i ≡ c) ⊎ (i ≡ o)) → LeastChild le (entry-at get ys) n h c
-  least-of ys n h c o x y isx isy small lc child two = record {
+  least-of ys n h c o small lc child two = record {
     used = lc;
     child = child;
     least = λ d i zi li e. ⊎-elim
       (λ eq. rw eq (at-most-self le ord (entry-at get ys d c)))
-      (λ eq. same-order le (isx d) (ap (entry-at get ys d) eq ∙ isy d) small)
+      (λ eq. same-order le refl (ap (entry-at get ys d) eq) (small d))
       (two i zi e);
   }

@@ -1,9 +1,10 @@
 ghost use mathlib.Core.Path.{_≡_};
-ghost use Prim.Native.Nat.{ℕ, _≤_, _<_, _*_, _+_, _-_};
+ghost use Prim.Native.Nat.{ℕ, _≤_, _<_, _*_, _+_, _-_, _/_};
 ghost use lib.ListN.{length};
 ghost use Rattle.queue.specs.Calls.{Head, HeadEntry, Inserted, RemovedAt, ReplacedAt};
 ghost use Rattle.queue.specs.Entries.{entries, entry-at};
 ghost use Rattle.queue.specs.Frame.{Frame, SameFrom};
+ghost use Rattle.queue.specs.Heap.{parent-slot};
 ghost use Rattle.queue.specs.Hole.{LeastChild};
 ghost use Rattle.queue.specs.Sift.{Risen, Sunk};
 use crate::order::Ranked;
@@ -95,6 +96,38 @@ fn settle<Q, R: Slot<Q>>(slots: &mut [R], n: usize, i: usize, e: R::Entry) -> us
     }
 }
 
+// The slot above slot i.
+pub(crate) fn parent_slot(i: usize) -> usize
+    requires { ⌜ 0 < i ⌝ }
+    ensures { λ r. ⌜ r ≡ parent-slot i ⌝ }
+{
+    (i - 1) / 2
+}
+
+// The first child slot of slot i, which is a slot of a queue of n.
+fn left_child(i: usize, n: usize) -> usize
+    requires { ⌜ i < n / 2 ⌝ }
+    ensures { λ r. ⌜ r ≡ 2 * i + 1 ⌝ }
+{
+    2 * i + 1
+}
+
+// Whether e may stand below the entry in slot i.
+fn fits_above<Q, R: Slot<Q>>(slots: &[R], i: usize, e: R::Entry) -> bool
+    requires { ⌜ i < length (now slots) ⌝ }
+    ensures { λ r. ⌜ ((d : _) → Entry·Ranked .atMost (entry-at entryOf (now (slots .entry)) d i) e ≡ r) ⌝ }
+{
+    slot_entry::<Q, R>(slots, i).at_most(&e)
+}
+
+// Whether e may stand above the entry in slot i.
+fn fits_below<Q, R: Slot<Q>>(slots: &[R], i: usize, e: R::Entry) -> bool
+    requires { ⌜ i < length (now slots) ⌝ }
+    ensures { λ r. ⌜ ((d : _) → Entry·Ranked .atMost e (entry-at entryOf (now (slots .entry)) d i) ≡ r) ⌝ }
+{
+    e.at_most(&slot_entry::<Q, R>(slots, i))
+}
+
 // Moves the hole up while its parent slot's entry is above e, and returns where it ended.
 fn sift_up<Q, R: Slot<Q>>(slots: &mut [R], from: usize, e: R::Entry) -> usize
     requires { ⌜ from < length (now slots) ⌝ }
@@ -102,11 +135,11 @@ fn sift_up<Q, R: Slot<Q>>(slots: &mut [R], from: usize, e: R::Entry) -> usize
 {
     let mut hole = from;
     while hole > 0 {
-        let parent = (hole - 1) / 2;
-        let above = slot_entry::<Q, R>(slots, parent);
-        if above.at_most(&e) {
+        let parent = parent_slot(hole);
+        if fits_above::<Q, R>(slots, parent, e) {
             break;
         }
+        let above = slot_entry::<Q, R>(slots, parent);
         slots[hole].set_entry(above);
         hole = parent;
     }
@@ -115,15 +148,14 @@ fn sift_up<Q, R: Slot<Q>>(slots: &mut [R], from: usize, e: R::Entry) -> usize
 
 // The child slot of the hole whose entry is least.
 fn least_child<Q, R: Slot<Q>>(slots: &[R], n: usize, hole: usize) -> usize
-    requires { ⌜ n ≤ length (now slots) ⌝ ∗ ⌜ 2 * hole + 1 < n ⌝ }
+    requires { ⌜ n ≤ length (now slots) ⌝ ∗ ⌜ hole < n / 2 ⌝ }
     ensures { λ r. ⌜ LeastChild (Entry·Ranked .atMost) (entry-at entryOf (now (slots .entry))) n hole r ⌝ }
 {
-    let left = 2 * hole + 1;
+    let left = left_child(hole, n);
     let right = left + 1;
     if right < n {
-        let first = slot_entry::<Q, R>(slots, left);
         let second = slot_entry::<Q, R>(slots, right);
-        if first.at_most(&second) { left } else { right }
+        if fits_above::<Q, R>(slots, left, second) { left } else { right }
     } else {
         left
     }
@@ -137,10 +169,10 @@ fn sift_down<Q, R: Slot<Q>>(slots: &mut [R], n: usize, from: usize, e: R::Entry)
     let mut hole = from;
     while hole < n / 2 {
         let child = least_child::<Q, R>(slots, n, hole);
-        let below = slot_entry::<Q, R>(slots, child);
-        if e.at_most(&below) {
+        if fits_below::<Q, R>(slots, child, e) {
             break;
         }
+        let below = slot_entry::<Q, R>(slots, child);
         slots[hole].set_entry(below);
         hole = child;
     }

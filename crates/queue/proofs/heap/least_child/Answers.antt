@@ -1,5 +1,5 @@
 use native.Mathlib.Omega.{arith}
-use mathlib.Core.Path.{_≡_, sym, ap, _∙_}
+use mathlib.Core.Path.{_≡_, ap, _∙_}
 use mathlib.Core.Logic.{_⊎_, inl, inr, ⊎-elim}
 use Prim.Native.Nat.{ℕ, _+_, _*_, _<_}
 use Rattle.std.proofs.shelf.Tests.{cases-eq}
@@ -8,19 +8,18 @@ use Rattle.queue.proofs.Holes.{other-way}
 use Rattle.queue.proofs.Sifts.{least-of}
 use Rattle.queue.proofs.heap.least_child.Needs as need
 
--- a child slot is the left one or the right one
-left-or-right : (h i : ℕ) → 0 < i → parent-slot i ≡ h → (i ≡ 2 * h + 1) ⊎ (i ≡ 2 * h + 1 + 1)
-left-or-right h i z e = ⊎-elim inl (λ ne. inr (omega arith)) (cases-eq i (2 * h + 1))
+-- a child slot of h is the left one, l, or the right one
+left-or-right : (h l : ℕ) → l ≡ 2 * h + 1 → (i : ℕ) → 0 < i → parent-slot i ≡ h → (i ≡ l) ⊎ (i ≡ l + 1)
+left-or-right h l el i z e = ⊎-elim inl (λ ne. inr (omega arith)) (cases-eq i l)
 
-pub returns-then-at-most : need.returns-then-at-most
-returns-then-at-most g c =
-  least-of (g .Entry·Ranked .atMost) (g .Entry·Ranked·met .ordered) (g .R·Slot .entryOf) (g .R·Slot .withEntry) (g .R·Slot·met .lens) (c .args .slots .now) (c .args .n) (c .args .hole) _ _ (c .slot-entry-first .result) (c .slot-entry-second .result)
-    (c .slot-entry-first .ensures) (c .slot-entry-second .ensures) (sym (c .at-most .ensures) ∙ c .if-at-most .taken)
-    (omega arith) (omega arith, omega arith) (left-or-right (c .args .hole))
+pub returns-then-fits-above : need.returns-then-fits-above
+returns-then-fits-above g c =
+  least-of (g .Entry·Ranked .atMost) (g .Entry·Ranked·met .ordered) (g .R·Slot .entryOf) (g .R·Slot .withEntry) (g .R·Slot·met .lens) (c .args .slots .now) (c .args .n) (c .args .hole) (c .left-child-left .result) (c .left-child-left .result + 1)
+    (λ d. ap (g .Entry·Ranked .atMost _) (c .slot-entry-second .ensures d) ∙ c .if-fits-above .ensures tt d)
+    (omega arith) (omega arith, omega arith) (left-or-right (c .args .hole) (c .left-child-left .result) (c .left-child-left .ensures))
 
-pub returns-else-at-most : need.returns-else-at-most
-returns-else-at-most g c =
-  least-of (g .Entry·Ranked .atMost) (g .Entry·Ranked·met .ordered) (g .R·Slot .entryOf) (g .R·Slot .withEntry) (g .R·Slot·met .lens) (c .args .slots .now) (c .args .n) (c .args .hole) _ _ (c .slot-entry-second .result) (c .slot-entry-first .result)
-    (c .slot-entry-second .ensures) (c .slot-entry-first .ensures)
-    (other-way (g .Entry·Ranked .atMost) (g .Entry·Ranked·met .ordered) _ _ (sym (c .at-most .ensures) ∙ c .if-at-most .left))
-    (omega arith) (omega arith, omega arith) (λ i z e. ⊎-elim inr inl (left-or-right (c .args .hole) i z e))
+pub returns-else-fits-above : need.returns-else-fits-above
+returns-else-fits-above g c =
+  least-of (g .Entry·Ranked .atMost) (g .Entry·Ranked·met .ordered) (g .R·Slot .entryOf) (g .R·Slot .withEntry) (g .R·Slot·met .lens) (c .args .slots .now) (c .args .n) (c .args .hole) (c .left-child-left .result + 1) (c .left-child-left .result)
+    (λ d. other-way (g .Entry·Ranked .atMost) (g .Entry·Ranked·met .ordered) _ _ (ap (g .Entry·Ranked .atMost _) (c .slot-entry-second .ensures d) ∙ c .if-fits-above .ensures tt d))
+    (omega arith) (omega arith, omega arith) (λ i z e. ⊎-elim inr inl (left-or-right (c .args .hole) (c .left-child-left .result) (c .left-child-left .ensures) i z e))
