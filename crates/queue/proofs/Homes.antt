@@ -60,16 +60,16 @@ module _ {E : Type 0} (home : E → ℕ) where
 
     pub absent-none : (n : ℕ) (xs : List R) (h : ℕ) → Absent home get n xs h → NonePass (named h) (entries get n xs)
     absent-none n xs h A d i l =
-      let li : i < n = used-slot n xs i l in
-      ne-eqb _ h (λ e. A d i li (sym (same-home n xs d i li) ∙ e))
+        let li : i < n = used-slot n xs i l in
+        ne-eqb _ h (λ e. A d i li (sym (same-home n xs d i li) ∙ e))
 
     pub homes-of-slots : (n m : ℕ) (xs : List R) → ((d : E) (i : ℕ) → i < n → home (entry-at get xs d i) < m) → OwnHomes home get n xs → Homes m (entries get n xs)
     homes-of-slots n m xs inside own = record {
       within = λ d i l. let li : i < n = used-slot n xs i l in lt-leb m _ (omega (arith, inside d i li, same-home n xs d i li));
       own = λ x d i j l l′ t t′.
-        let li : i < n = used-slot n xs i l in
-        let lj : j < n = used-slot n xs j l′ in
-        own d i j li lj (sym (same-home n xs d i li) ∙ eqb-true _ x t ∙ sym (eqb-true _ x t′) ∙ same-home n xs d j lj);
+          let li : i < n = used-slot n xs i l in
+          let lj : j < n = used-slot n xs j l′ in
+          own d i j li lj (sym (same-home n xs d i li) ∙ eqb-true _ x t ∙ sym (eqb-true _ x t′) ∙ same-home n xs d j lj);
     }
 
     pub within-slots : (n m : ℕ) (xs : List R) → n ≤ length xs → Homes m (entries get n xs) → (d : E) (i : ℕ) → i < n → home (entry-at get xs d i) < m
@@ -77,14 +77,14 @@ module _ {E : Type 0} (home : E → ℕ) where
 
     pub own-slots : (n m : ℕ) (xs : List R) → n ≤ length xs → Homes m (entries get n xs) → OwnHomes home get n xs
     own-slots n m xs ln H d i j li lj e =
-      let x : ℕ = home (entry-at get xs d i) in
-      H .own x d i j (slot-used n xs i ln li) (slot-used n xs j ln lj)
+        let x : ℕ = home (entry-at get xs d i) in
+        H .own x d i j (slot-used n xs i ln li) (slot-used n xs j ln lj)
         (eq-eqb _ x (same-home n xs d i li)) (eq-eqb _ x (same-home n xs d j lj ∙ sym e))
 
     -- right notes tell the entries' homes apart
     pub homes-noted : (note : R → ℕ) (n : ℕ) (xs : List R) → n ≤ length xs → NotesRight home get note n xs → Homes (length xs) (entries get n xs)
     homes-noted note n xs ln N = homes-of-slots n (length xs) xs
-      (λ d i l. N d (some-element xs (omega arith)) i l .0)
-      (λ d i j li lj e.
+        (λ d i l. N d (some-element xs (omega arith)) i l .0)
+        (λ d i j li lj e.
         let r = some-element xs (omega arith) in
         sym (N d r i li .1) ∙ ap (λ (k : ℕ). note (getD xs k r)) e ∙ N d r j lj .1)

@@ -13,4 +13,4 @@ abbrev pub near-at-most : NearEntry → NearEntry → Bool
 near-at-most x y =
     ltb (x .steps) (y .steps)
     || (eqb (x .steps) (y .steps)
-        && (ltb (x .cost) (y .cost) || (eqb (x .cost) (y .cost) && leb (x .place) (y .place))))
+    && (ltb (x .cost) (y .cost) || (eqb (x .cost) (y .cost) && leb (x .place) (y .place))))

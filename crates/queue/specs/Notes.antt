@@ -29,9 +29,9 @@ pub record IndexedFrame {R E : Type 0} (home-of : E → ℕ) (entry-of : R → E
   pub same-length : length after ≡ length before
   pub off-path : (d : E) (a : ℕ) → (OnPath a deepest → ⊥) → entry-at entry-of after d a ≡ entry-at entry-of before d a
   pub only-queue :
-    (r : R) (a : ℕ) → getD after a r ≡ with-note (with-entry (getD before a r) (entry-of (getD after a r))) (note-of (getD after a r))
+      (r : R) (a : ℕ) → getD after a r ≡ with-note (with-entry (getD before a r) (entry-of (getD after a r))) (note-of (getD after a r))
   pub whole :
-    (r : R) (a : ℕ)
-    → (OnPath a deepest → ⊥)
-    → ((d : E) (i : ℕ) → OnPath i deepest → home-of (entry-at entry-of after d i) ≢ a)
-    → getD after a r ≡ getD before a r
+      (r : R) (a : ℕ)
+      → (OnPath a deepest → ⊥)
+      → ((d : E) (i : ℕ) → OnPath i deepest → home-of (entry-at entry-of after d i) ≢ a)
+      → getD after a r ≡ getD before a r

@@ -31,10 +31,10 @@ pub record Noted {R E : Type 0} (home-of : E → ℕ) (entry-of : R → E) (note
   pub same-entries : map entry-of after ≡ map entry-of before
   pub only-note : (r : R) (a : ℕ) → getD after a r ≡ with-note (getD before a r) (note-of (getD after a r))
   pub others :
-    (r : R) (a : ℕ) → ((d : E) (i : ℕ) → OnPath i deepest → home-of (entry-at entry-of before d i) ≢ a) → getD after a r ≡ getD before a r
+      (r : R) (a : ℕ) → ((d : E) (i : ℕ) → OnPath i deepest → home-of (entry-at entry-of before d i) ≢ a) → getD after a r ≡ getD before a r
   pub right :
-    (n : ℕ)
-    → deepest < n
-    → OwnHomes home-of entry-of n before
-    → ((i : ℕ) → i < n → (OnPath i deepest → ⊥) → NoteRight home-of entry-of note-of before before i)
-    → (i : ℕ) → i < n → (left i → ⊥) → NoteRight home-of entry-of note-of before after i
+      (n : ℕ)
+      → deepest < n
+      → OwnHomes home-of entry-of n before
+      → ((i : ℕ) → i < n → (OnPath i deepest → ⊥) → NoteRight home-of entry-of note-of before before i)
+      → (i : ℕ) → i < n → (left i → ⊥) → NoteRight home-of entry-of note-of before after i

@@ -13,8 +13,8 @@ use Rattle.queue.specs.Path.{OnPath}
 -- The hole moved among the first n slots: all other entries are there as often as before, and a heap with a hole stayed one.
 pub record HoleMoved {R E : Type 0} (at-most : E → E → Bool) (entry-of : R → E) (n : ℕ) (before : List R) (hole : ℕ) (after : List R) (hole′ : ℕ) : Type 0 where
   pub sums :
-    (f : E → ℕ) (d : E)
-    → sumBy f (entries entry-of n after) + f (entry-at entry-of before d hole) ≡ sumBy f (entries entry-of n before) + f (entry-at entry-of after d hole′)
+      (f : E → ℕ) (d : E)
+      → sumBy f (entries entry-of n after) + f (entry-at entry-of before d hole) ≡ sumBy f (entries entry-of n before) + f (entry-at entry-of after d hole′)
   pub holed : (d : E) → Holed at-most (entry-at entry-of before d) n hole → Holed at-most (entry-at entry-of after d) n hole′
 
 -- The hole rose, and whatever moved made e fit below.

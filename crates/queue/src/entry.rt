@@ -12,7 +12,11 @@ pub impl Ranked for CostEntry as CostRanked {
     ghost atMost = { cost-at-most };
 
     fn at_most(&self, other: &CostEntry) -> bool {
-        self.cost < other.cost || (self.cost == other.cost && self.place <= other.place)
+        if self.cost == other.cost {
+            self.place <= other.place
+        } else {
+            self.cost < other.cost
+        }
     }
 }
 
@@ -30,6 +34,7 @@ pub impl Ranked for NearEntry as NearRanked {
     fn at_most(&self, other: &NearEntry) -> bool {
         self.steps < other.steps
             || (self.steps == other.steps
-                && (self.cost < other.cost || (self.cost == other.cost && self.place <= other.place)))
+                && (self.cost < other.cost
+                    || (self.cost == other.cost && self.place <= other.place)))
     }
 }

@@ -15,7 +15,11 @@ pub fn head<Q, R: Slot<Q>>(slots: &[R], n: usize) -> Option<R::Entry>
     requires { ⌜ n ≤ length (now slots) ⌝ }
     ensures { λ r. ⌜ Head (Entry·Ranked .atMost) n (entries entryOf n (now (slots .entry))) r ⌝ }
 {
-    if n == 0 { None } else { Some(first_entry::<Q, R>(slots, n)) }
+    if n == 0 {
+        None
+    } else {
+        Some(first_entry::<Q, R>(slots, n))
+    }
 }
 
 // Inserts e into a queue of n, and returns the deepest slot that changed.
@@ -74,7 +78,11 @@ fn close_gap<Q, R: Slot<Q>>(slots: &mut [R], n: usize, i: usize, last: R::Entry)
     ensures deepest { λ r. ⌜ r ≤ n - 2 ⌝ }
     ensures beyond { λ _. ⌜ SameFrom (n - 1) (now (slots .entry)) (now (slots .exit)) ⌝ }
 {
-    if i < n - 1 { settle::<Q, R>(slots, n - 1, i, last) } else { 0 }
+    if i < n - 1 {
+        settle::<Q, R>(slots, n - 1, i, last)
+    } else {
+        0
+    }
 }
 
 // Writes e where it fits among the first n slots, with the hole in slot i, and returns the deepest slot that changed.
@@ -109,7 +117,7 @@ fn left_child(i: usize, n: usize) -> usize
     requires { ⌜ i < n / 2 ⌝ }
     ensures { λ r. ⌜ r ≡ 2 * i + 1 ⌝ }
 {
-    2 * i + 1
+    i * 2 + 1
 }
 
 // Whether e may stand below the entry in slot i.
@@ -155,7 +163,11 @@ fn least_child<Q, R: Slot<Q>>(slots: &[R], n: usize, hole: usize) -> usize
     let right = left + 1;
     if right < n {
         let second = slot_entry::<Q, R>(slots, right);
-        if fits_above::<Q, R>(slots, left, second) { left } else { right }
+        if fits_above::<Q, R>(slots, left, second) {
+            left
+        } else {
+            right
+        }
     } else {
         left
     }

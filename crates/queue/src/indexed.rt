@@ -62,9 +62,7 @@ pub fn remove<Q, R: Homed<Q>>(slots: &mut [R], n: usize, home: usize) -> usize
     ensures deepest { λ r. ⌜ r ≤ n - 2 ⌝ }
 {
     let slot = slot_of::<Q, R>(slots, home);
-    let deepest = heap::remove_at::<Q, R>(slots, n, slot);
-    write_notes::<Q, R>(slots, deepest);
-    deepest
+    remove_noted::<Q, R>(slots, n, home, slot)
 }
 
 // Replaces the entry of a home by another of the same home in a queue of n whose notes are right, and returns the deepest slot that changed.
@@ -78,9 +76,7 @@ pub fn replace<Q, R: Homed<Q>>(slots: &mut [R], n: usize, home: usize, e: R::Ent
     ensures deepest { λ r. ⌜ r < n ⌝ }
 {
     let slot = slot_of::<Q, R>(slots, home);
-    let deepest = heap::replace_at::<Q, R>(slots, n, slot, e);
-    write_notes::<Q, R>(slots, deepest);
-    deepest
+    replace_noted::<Q, R>(slots, n, home, slot, e)
 }
 
 // The slot in which the entry of the home stands, if it has one in the queue.
@@ -89,6 +85,42 @@ pub fn slot_of<Q, R: Homed<Q>>(slots: &[R], home: usize) -> usize
     ensures { λ i. ⌜ ((r : _) → noteOf (getD (now (slots .entry)) home r) ≡ i) ⌝ }
 {
     slots[home].note()
+}
+
+// Removes the entry in the slot that the home notes, and writes the notes of the entries that moved.
+fn remove_noted<Q, R: Homed<Q>>(slots: &mut [R], n: usize, home: usize, slot: usize) -> usize
+    requires room { ⌜ n ≤ length (now slots) ⌝ ∗ ⌜ length (now slots) ≤ noteLimit ⌝ }
+    requires notes { ⌜ NotesRight homeOf (R·Slot .entryOf) noteOf n (now slots) ⌝ }
+    requires home { ⌜ Present homeOf (R·Slot .entryOf) noteOf n (now slots) home ⌝ ∗ ⌜ ((r : _) → noteOf (getD (now slots) home r) ≡ slot) ⌝ }
+    ensures queue { λ _. ⌜ ((r : _) → RemovedAt (Entry·Ranked .atMost) (noteOf (getD (now (slots .entry)) home r)) (entries (R·Slot .entryOf) n (now (slots .entry))) (entries (R·Slot .entryOf) (n - 1) (now (slots .exit)))) ⌝ }
+    ensures notes { λ _. ⌜ NotesRight homeOf (R·Slot .entryOf) noteOf (n - 1) (now (slots .exit)) ⌝ }
+    ensures frame { λ r. ⌜ IndexedFrame homeOf (R·Slot .entryOf) (R·Slot .withEntry) noteOf withNote r (now (slots .entry)) (now (slots .exit)) ⌝ }
+    ensures deepest { λ r. ⌜ r ≤ n - 2 ⌝ }
+{
+    let deepest = heap::remove_at::<Q, R>(slots, n, slot);
+    write_notes::<Q, R>(slots, deepest);
+    deepest
+}
+
+// Replaces the entry in the slot that the home notes, and writes the notes of the entries that moved.
+fn replace_noted<Q, R: Homed<Q>>(
+    slots: &mut [R],
+    n: usize,
+    home: usize,
+    slot: usize,
+    e: R::Entry,
+) -> usize
+    requires room { ⌜ n ≤ length (now slots) ⌝ ∗ ⌜ length (now slots) ≤ noteLimit ⌝ }
+    requires notes { ⌜ NotesRight homeOf (R·Slot .entryOf) noteOf n (now slots) ⌝ }
+    requires home { ⌜ Present homeOf (R·Slot .entryOf) noteOf n (now slots) home ⌝ ∗ ⌜ ((r : _) → noteOf (getD (now slots) home r) ≡ slot) ⌝ ∗ ⌜ homeOf e ≡ home ⌝ }
+    ensures queue { λ _. ⌜ ((r : _) → ReplacedAt (Entry·Ranked .atMost) (noteOf (getD (now (slots .entry)) home r)) e (entries (R·Slot .entryOf) n (now (slots .entry))) (entries (R·Slot .entryOf) n (now (slots .exit)))) ⌝ }
+    ensures notes { λ _. ⌜ NotesRight homeOf (R·Slot .entryOf) noteOf n (now (slots .exit)) ⌝ }
+    ensures frame { λ r. ⌜ IndexedFrame homeOf (R·Slot .entryOf) (R·Slot .withEntry) noteOf withNote r (now (slots .entry)) (now (slots .exit)) ⌝ }
+    ensures deepest { λ r. ⌜ r < n ⌝ }
+{
+    let deepest = heap::replace_at::<Q, R>(slots, n, slot, e);
+    write_notes::<Q, R>(slots, deepest);
+    deepest
 }
 
 // Writes the note of the entry in the slot.
@@ -109,7 +141,7 @@ fn write_notes<Q, R: Homed<Q>>(slots: &mut [R], deepest: usize)
     let mut slot = deepest;
     while slot > 0 {
         write_note::<Q, R>(slots, slot);
-        slot = (slot - 1) / 2;
+        slot = heap::parent_slot(slot);
     }
     write_note::<Q, R>(slots, slot);
 }

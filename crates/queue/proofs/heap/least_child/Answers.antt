@@ -14,12 +14,12 @@ left-or-right h l el i z e = ⊎-elim inl (λ ne. inr (omega arith)) (cases-eq i
 
 pub returns-then-fits-above : need.returns-then-fits-above
 returns-then-fits-above g c =
-  least-of (g .Entry·Ranked .atMost) (g .Entry·Ranked·met .ordered) (g .R·Slot .entryOf) (g .R·Slot .withEntry) (g .R·Slot·met .lens) (c .args .slots .now) (c .args .n) (c .args .hole) (c .left-child-left .result) (c .left-child-left .result + 1)
+    least-of (g .Entry·Ranked .atMost) (g .Entry·Ranked·met .ordered) (g .R·Slot .entryOf) (g .R·Slot .withEntry) (g .R·Slot·met .lens) (c .args .slots .now) (c .args .n) (c .args .hole) (c .left-child-left .result) (c .left-child-left .result + 1)
     (λ d. ap (g .Entry·Ranked .atMost _) (c .slot-entry-second .ensures d) ∙ c .if-fits-above .ensures tt d)
     (omega arith) (omega arith, omega arith) (left-or-right (c .args .hole) (c .left-child-left .result) (c .left-child-left .ensures))
 
 pub returns-else-fits-above : need.returns-else-fits-above
 returns-else-fits-above g c =
-  least-of (g .Entry·Ranked .atMost) (g .Entry·Ranked·met .ordered) (g .R·Slot .entryOf) (g .R·Slot .withEntry) (g .R·Slot·met .lens) (c .args .slots .now) (c .args .n) (c .args .hole) (c .left-child-left .result + 1) (c .left-child-left .result)
+    least-of (g .Entry·Ranked .atMost) (g .Entry·Ranked·met .ordered) (g .R·Slot .entryOf) (g .R·Slot .withEntry) (g .R·Slot·met .lens) (c .args .slots .now) (c .args .n) (c .args .hole) (c .left-child-left .result + 1) (c .left-child-left .result)
     (λ d. other-way (g .Entry·Ranked .atMost) (g .Entry·Ranked·met .ordered) _ _ (ap (g .Entry·Ranked .atMost _) (c .slot-entry-second .ensures d) ∙ c .if-fits-above .ensures tt d))
     (omega arith) (omega arith, omega arith) (λ i z e. ⊎-elim inr inl (left-or-right (c .args .hole) (c .left-child-left .result) (c .left-child-left .ensures) i z e))

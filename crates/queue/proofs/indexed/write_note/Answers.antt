@@ -15,10 +15,10 @@ index-slots-home g c = inside (g .R·Homed .homeOf) _ (c .slot-entry-e .result) 
 
 pub offset-slots-home : need.offset-slots-home
 offset-slots-home g c =
-  let l : c .home-home .result < length (c .args .slots .now) = inside (g .R·Homed .homeOf) _ (c .slot-entry-e .result) _ _ (c .pre .1 .1) (c .slot-entry-e .ensures) (c .home-home .ensures) in
-  search needs
+    let l : c .home-home .result < length (c .args .slots .now) = inside (g .R·Homed .homeOf) _ (c .slot-entry-e .result) _ _ (c .pre .1 .1) (c .slot-entry-e .ensures) (c .home-home .ensures) in
+    search needs
 
 pub returns : need.returns
 returns g c =
-  note-written (g .R·Homed .homeOf) (g .R·Slot .entryOf) (g .R·Slot .withEntry) (g .R·Homed .noteOf) (g .R·Homed .withNote) (g .R·Homed·met .notes) (g .R·Homed·met .apart) (c .args .slots .now) (c .args .slot) (c .home-home .result) (c .slot-entry-e .result) (c .index-slots-home .result) (c .set-note .last .self)
+    note-written (g .R·Homed .homeOf) (g .R·Slot .entryOf) (g .R·Slot .withEntry) (g .R·Homed .noteOf) (g .R·Homed .withNote) (g .R·Homed·met .notes) (g .R·Homed·met .apart) (c .args .slots .now) (c .args .slot) (c .home-home .result) (c .slot-entry-e .result) (c .index-slots-home .result) (c .set-note .last .self)
     (inside (g .R·Homed .homeOf) _ (c .slot-entry-e .result) _ _ (c .pre .1 .1) (c .slot-entry-e .ensures) (c .home-home .ensures)) (c .slot-entry-e .ensures) (c .home-home .ensures) (c .set-note .ensures)

@@ -1,7 +1,7 @@
 use native.Mathlib.Omega.{arith}
-use mathlib.Core.Path.{refl, sym, ap, _∙_}
+use mathlib.Core.Path.{refl, sym, subst}
 use mathlib.Core.Logic.{⊎-elim}
-use Rattle.queue.specs.Heap.{parent-slot}
+use Prim.Native.Nat.{ℕ}
 use Rattle.queue.specs.Path.{OnPath}
 use Rattle.queue.specs.Path.OnPath.{here}
 use Rattle.queue.proofs.Paths.{on-path-up, on-path-split, on-path-le}
@@ -14,11 +14,13 @@ loop-slot-holds g c = (omega arith, here refl, noted-none (g .R·Homed .homeOf) 
 pub loop-slot-again : need.loop-slot-again
 loop-slot-again g c = (
   omega arith,
-  on-path-up (omega arith) (c .loop-slot .inv .1),
-  noted-more (g .R·Homed .homeOf) (g .R·Slot .entryOf) (g .R·Slot .withEntry) (g .R·Homed .noteOf) (g .R·Homed .withNote) (g .R·Homed·met .notes) (g .R·Homed·met .apart) (λ i. OnPath i (c .loop-slot .slot)) (λ i. OnPath i (parent-slot (c .loop-slot .slot))) (c .args .deepest) (c .loop-slot .slot) (c .args .slots .now) (c .loop-slot .slots) (c .write-note .last .slots)
-    (c .loop-slot .inv .2) (c .loop-slot .inv .1) (c .write-note .ensures) (λ i done ne p. ⊎-elim ne done (on-path-split p)))
+  subst (λ (p : ℕ). OnPath p (c .args .deepest)) (sym (c .parent-slot-slot .ensures)) (on-path-up (omega arith) (c .loop-slot .inv .1)),
+  noted-more (g .R·Homed .homeOf) (g .R·Slot .entryOf) (g .R·Slot .withEntry) (g .R·Homed .noteOf) (g .R·Homed .withNote) (g .R·Homed·met .notes) (g .R·Homed·met .apart) (λ i. OnPath i (c .loop-slot .slot)) (λ i. OnPath i (c .parent-slot-slot .result)) (c .args .deepest) (c .loop-slot .slot) (c .args .slots .now) (c .loop-slot .slots) (c .write-note .last .slots)
+      (c .loop-slot .inv .2) (c .loop-slot .inv .1) (c .write-note .ensures)
+      (λ i done ne p. ⊎-elim ne (λ q. done (subst (OnPath i) (sym (c .parent-slot-slot .ensures)) q)) (on-path-split p)),
+)
 
 pub returns : need.returns
 returns g c =
-  noted-more (g .R·Homed .homeOf) (g .R·Slot .entryOf) (g .R·Slot .withEntry) (g .R·Homed .noteOf) (g .R·Homed .withNote) (g .R·Homed·met .notes) (g .R·Homed·met .apart) (λ i. OnPath i (c .loop-slot .slot)) (λ _. ⊥) (c .args .deepest) (c .loop-slot .slot) (c .args .slots .now) (c .loop-slot .slots) (c .write-note-2 .last .slots)
+    noted-more (g .R·Homed .homeOf) (g .R·Slot .entryOf) (g .R·Slot .withEntry) (g .R·Homed .noteOf) (g .R·Homed .withNote) (g .R·Homed·met .notes) (g .R·Homed·met .apart) (λ i. OnPath i (c .loop-slot .slot)) (λ _. ⊥) (c .args .deepest) (c .loop-slot .slot) (c .args .slots .now) (c .loop-slot .slots) (c .write-note-2 .last .slots)
     (c .loop-slot .inv .2) (c .loop-slot .inv .1) (c .write-note-2 .ensures) (λ i done ne p. ne (omega (arith, on-path-le p)))

@@ -33,13 +33,14 @@ insert-requires-2 c κs = record {
   home = (
     omega arith,
     absent-after-added home entry note 0 1 (c .node .result ∷ c .node-2 .result ∷ c .node-3 .result ∷ c .node-4 .result ∷ []) (c .insert .last .slots)
-      (omega arith) (omega arith) (c .cost .result) (c .insert .ensures .queue .change) (c .cost-2 .result .place) (omega arith) (λ d i l e. absurd (omega arith)));
+        (omega arith) (omega arith) (c .cost .result) (c .insert .ensures .queue .change) (c .cost-2 .result .place) (omega arith) (λ d i l e. absurd (omega arith)),
+  );
 }
 
 -- an entry of place 3 was the second to be inserted
 third-present : (xs ys : List Node) (e : CostEntry) → 1 ≤ length xs → 2 ≤ length ys → Added e (entries entry 1 xs) (entries entry 2 ys) → NotesRight home entry note 2 ys → e .place ≡ 3 → Present home entry note 2 ys 3
 third-present xs ys e l l′ A N three =
-  subst (λ (h : ℕ). Present home entry note 2 ys h) three (present-added home entry note 1 2 xs ys l l′ e A N)
+    subst (λ (h : ℕ). Present home entry note 2 ys h) three (present-added home entry note 1 2 xs ys l l′ e A N)
 
 pub replace-requires : need.replace-requires
 replace-requires c κs = record {
@@ -50,13 +51,13 @@ replace-requires c κs = record {
 
 pub remove-requires : need.remove-requires
 remove-requires c κs =
-  let P = third-present (c .insert .last .slots) (c .insert-2 .last .slots) (c .cost-2 .result) (omega arith) (omega arith) (c .insert-2 .ensures .queue .change) (c .insert-2 .ensures .notes) (c .cost-2 .ensures) in
-  let r = c .node .result in
-  let d = c .cost .result in
-  record {
-    room = (omega arith, omega arith);
-    notes = c .replace .ensures .notes;
-    home = present-after-replaced home entry note 2 2 (c .insert-2 .last .slots) (c .replace .last .slots) (omega arith) (omega arith)
-      (getD (entries entry 2 (c .insert-2 .last .slots)) (note (getD (c .insert-2 .last .slots) 3 r)) d) (c .cost-3 .result) (c .replace .ensures .queue r .change d)
-      (present-home home entry note 2 (c .insert-2 .last .slots) 3 P d r ∙ sym (c .cost-3 .ensures)) 3 (c .replace .ensures .notes) P;
-  }
+    let P = third-present (c .insert .last .slots) (c .insert-2 .last .slots) (c .cost-2 .result) (omega arith) (omega arith) (c .insert-2 .ensures .queue .change) (c .insert-2 .ensures .notes) (c .cost-2 .ensures) in
+    let r = c .node .result in
+    let d = c .cost .result in
+    record {
+      room = (omega arith, omega arith);
+      notes = c .replace .ensures .notes;
+      home = present-after-replaced home entry note 2 2 (c .insert-2 .last .slots) (c .replace .last .slots) (omega arith) (omega arith)
+          (getD (entries entry 2 (c .insert-2 .last .slots)) (note (getD (c .insert-2 .last .slots) 3 r)) d) (c .cost-3 .result) (c .replace .ensures .queue r .change d)
+          (present-home home entry note 2 (c .insert-2 .last .slots) 3 P d r ∙ sym (c .cost-3 .ensures)) 3 (c .replace .ensures .notes) P;
+    }
