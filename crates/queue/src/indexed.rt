@@ -79,8 +79,8 @@ pub fn replace<Q, R: Homed<Q>>(slots: &mut [R], n: usize, home: usize, e: R::Ent
     replace_noted::<Q, R>(slots, n, home, slot, e)
 }
 
-// The slot in which the entry of the home stands, if it has one in the queue.
-pub fn slot_of<Q, R: Homed<Q>>(slots: &[R], home: usize) -> usize
+// The slot that the home notes.
+fn slot_of<Q, R: Homed<Q>>(slots: &[R], home: usize) -> usize
     requires { ⌜ home < length (now slots) ⌝ }
     ensures { λ i. ⌜ ((r : _) → noteOf (getD (now (slots .entry)) home r) ≡ i) ⌝ }
 {

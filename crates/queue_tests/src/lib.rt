@@ -1,10 +1,17 @@
 // Records under test: a node with a slot of two queues, one of them indexed, and an event that is its own slot.
-ghost use Prim.Native.Nat.{ℕ, _^_};
-ghost use Rattle.queue_tests.specs.Lenses.{event-at-most, with-low, with-low-slot, with-near};
+ghost use mathlib.Core.Path.{_≡_};
+ghost use Prim.Native.Nat.{ℕ, _^_, _<_};
+ghost use lib.ListN.{length};
+ghost use Rattle.queue.specs.Entries.{entries};
+ghost use Rattle.queue.specs.Keys.{cost-at-most};
+ghost use Rattle.queue.specs.Notes.{NotesRight};
+ghost use Rattle.queue.specs.Rule.{QueueRule};
+ghost use Rattle.queue_tests.specs.Lenses.{event-at-most, low-of, with-low, low-slot-of, with-low-slot, near-of, with-near, place-of};
 use queue::entry::CostEntry;
 use queue::entry::CostRanked;
 use queue::entry::NearEntry;
 use queue::entry::NearRanked;
+use queue::heap;
 use queue::indexed::Homed;
 use queue::order::Ranked;
 use queue::slot::Slot;
@@ -25,7 +32,7 @@ pub struct Node {
 pub impl Slot<Low> for Node as NodeLow {
     type Entry = CostEntry;
 
-    ghost entryOf = { λ n. n .low };
+    ghost entryOf = { low-of };
 
     ghost withEntry = { with-low };
 
@@ -39,9 +46,9 @@ pub impl Slot<Low> for Node as NodeLow {
 }
 
 pub impl Homed<Low> for Node as NodeHome {
-    ghost homeOf = { λ e. e .place };
+    ghost homeOf = { place-of };
 
-    ghost noteOf = { λ n. n .«low_slot» };
+    ghost noteOf = { low-slot-of };
 
     ghost withNote = { with-low-slot };
 
@@ -63,7 +70,7 @@ pub impl Homed<Low> for Node as NodeHome {
 pub impl Slot<Near> for Node as NodeNear {
     type Entry = NearEntry;
 
-    ghost entryOf = { λ n. n .near };
+    ghost entryOf = { near-of };
 
     ghost withEntry = { with-near };
 
@@ -74,6 +81,16 @@ pub impl Slot<Near> for Node as NodeNear {
     fn set_entry(&mut self, e: NearEntry) {
         self.near = e;
     }
+}
+
+// Inserts into the near queue of n. The low queue keeps its entries, its rule and its notes, however many entries m it has.
+pub fn insert_near(slots: &mut [Node], n: usize, e: NearEntry) -> usize
+    requires { ⌜ n < length (now slots) ⌝ }
+    ensures entries { λ _. ⌜ ((m : ℕ) → entries low-of m (now (slots .exit)) ≡ entries low-of m (now (slots .entry))) ⌝ }
+    ensures rule { λ _. ⌜ ((m : ℕ) → QueueRule cost-at-most low-of m (now (slots .entry)) → QueueRule cost-at-most low-of m (now (slots .exit))) ⌝ }
+    ensures notes { λ _. ⌜ ((m : ℕ) → NotesRight place-of low-of low-slot-of m (now (slots .entry)) → NotesRight place-of low-of low-slot-of m (now (slots .exit))) ⌝ }
+{
+    heap::insert::<Near, Node>(slots, n, e)
 }
 
 // The marker of the queue of events.

@@ -7,17 +7,9 @@ use Rattle.queue.proofs.Presence.{present-home, present-added, absent-after-add
 use Rattle.queue.specs.Entries.{entries, Added}
 use Rattle.queue.specs.Notes.{NotesRight, Present}
 use Rattle.queue.specs.declared.entry.CostEntry.{CostEntry}
+use Rattle.queue_tests.specs.Lenses.{place-of, low-of, low-slot-of}
 use Rattle.queue_tests.specs.declared.Node.{Node}
 use Rattle.queue_tests.proofs.tests.homes_note_their_slots.Needs as need
-
-abbrev home : CostEntry → ℕ
-home e = e .place
-
-abbrev entry : Node → CostEntry
-entry n = n .low
-
-abbrev note : Node → ℕ
-note n = n .«low_slot»
 
 pub insert-requires : need.insert-requires
 insert-requires c κs = record {
@@ -32,15 +24,15 @@ insert-requires-2 c κs = record {
   notes = c .insert .ensures .notes;
   home = (
     omega arith,
-    absent-after-added home entry note 0 1 (c .node .result ∷ c .node-2 .result ∷ c .node-3 .result ∷ c .node-4 .result ∷ []) (c .insert .last .slots)
+    absent-after-added place-of low-of low-slot-of 0 1 (c .node .result ∷ c .node-2 .result ∷ c .node-3 .result ∷ c .node-4 .result ∷ []) (c .insert .last .slots)
         (omega arith) (omega arith) (c .cost .result) (c .insert .ensures .queue .change) (c .cost-2 .result .place) (omega arith) (λ d i l e. absurd (omega arith)),
   );
 }
 
 -- an entry of place 3 was the second to be inserted
-third-present : (xs ys : List Node) (e : CostEntry) → 1 ≤ length xs → 2 ≤ length ys → Added e (entries entry 1 xs) (entries entry 2 ys) → NotesRight home entry note 2 ys → e .place ≡ 3 → Present home entry note 2 ys 3
+third-present : (xs ys : List Node) (e : CostEntry) → 1 ≤ length xs → 2 ≤ length ys → Added e (entries low-of 1 xs) (entries low-of 2 ys) → NotesRight place-of low-of low-slot-of 2 ys → e .place ≡ 3 → Present place-of low-of low-slot-of 2 ys 3
 third-present xs ys e l l′ A N three =
-    subst (λ (h : ℕ). Present home entry note 2 ys h) three (present-added home entry note 1 2 xs ys l l′ e A N)
+    subst (λ (h : ℕ). Present place-of low-of low-slot-of 2 ys h) three (present-added place-of low-of low-slot-of 1 2 xs ys l l′ e A N)
 
 pub replace-requires : need.replace-requires
 replace-requires c κs = record {
@@ -57,7 +49,7 @@ remove-requires c κs =
     record {
       room = (omega arith, omega arith);
       notes = c .replace .ensures .notes;
-      home = present-after-replaced home entry note 2 2 (c .insert-2 .last .slots) (c .replace .last .slots) (omega arith) (omega arith)
-          (getD (entries entry 2 (c .insert-2 .last .slots)) (note (getD (c .insert-2 .last .slots) 3 r)) d) (c .cost-3 .result) (c .replace .ensures .queue r .change d)
-          (present-home home entry note 2 (c .insert-2 .last .slots) 3 P d r ∙ sym (c .cost-3 .ensures)) 3 (c .replace .ensures .notes) P;
+      home = present-after-replaced place-of low-of low-slot-of 2 2 (c .insert-2 .last .slots) (c .replace .last .slots) (omega arith) (omega arith)
+          (getD (entries low-of 2 (c .insert-2 .last .slots)) (low-slot-of (getD (c .insert-2 .last .slots) 3 r)) d) (c .cost-3 .result) (c .replace .ensures .queue r .change d)
+          (present-home place-of low-of low-slot-of 2 (c .insert-2 .last .slots) 3 P d r ∙ sym (c .cost-3 .ensures)) 3 (c .replace .ensures .notes) P;
     }
