@@ -1,0 +1,3 @@
+// The table of a search: one node for each place, with the place's record and a seat in each queue.
+pub mod node;
+pub mod seats;
