@@ -1,0 +1,14 @@
+pub mod Paths
+pub mod Holes
+pub mod Writes
+pub mod Sifts
+pub mod Settles
+pub mod Heads
+pub mod Parts
+pub mod Rules
+pub mod Members
+pub mod NoteWrites
+pub mod Homes
+pub mod NotesKept
+pub mod HomedCalls
+pub mod Presence

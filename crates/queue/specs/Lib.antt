@@ -1,0 +1,13 @@
+pub mod Order
+pub mod Keys
+pub mod Lens
+pub mod Entries
+pub mod Heap
+pub mod Rule
+pub mod Path
+pub mod Frame
+pub mod Calls
+pub mod Notes
+pub mod Hole
+pub mod Sift
+pub mod Noting
