@@ -1,0 +1,4 @@
+pub mod Expectations
+pub mod Holding
+pub mod Keeping
+pub mod Counting
