@@ -2,3 +2,4 @@ pub mod Expectations
 pub mod Holding
 pub mod Keeping
 pub mod Counting
+pub mod Checking
