@@ -9,7 +9,7 @@ use lib.Dec.{eqb, ltb}
 use lib.ListN.{length, getD, length-take}
 use lib.Seq.{getD-take}
 use Rattle.std.proofs.shelf.Lists.{getD-map, getD-default, length-map}
-use Rattle.std.proofs.shelf.Maps.{nth-past}
+use Rattle.std.proofs.shelf.Maps.{nth-past, nth-read}
 use Rattle.std.proofs.shelf.Tests.{cases-eq, cases-lt, cases-bool, and-parts, and-from, and-left, and-right, or-cases, or-left, or-right, eqb-true, eq-eqb, ltb-true, lt-ltb, both-ways, cond-true, cond-false}
 use Rattle.std.specs.Finite.{nth}
 use Rattle.std.specs.declared.option.Option.{Option}
@@ -36,9 +36,17 @@ pub each-every : (p : ℕ → Bool) (n : ℕ) → ((i : ℕ) → i < n → p i �
 each-every p zero all = refl
 each-every p (suc n) all = and-from (every p n) (p n) (each-every p n (λ i l. all i (omega arith))) (all n (omega arith))
 
+-- a number that fails
+one-fails : (p : ℕ → Bool) (n i : ℕ) → i < n → p i ≡ false → every p n ≡ false
+one-fails p n i l f = ⊎-elim (λ t. absurd (both-ways (p i) f (every-each p n t i l))) (λ e. e) (cases-bool (every p n))
+
 -- past the last record nothing is expected
 pub expected-past : {R E : Type 0} (wanted : R → ℕ → Option E) (xs : List R) (h : ℕ) → length xs ≤ h → expected-in wanted xs h ≡ None
 expected-past wanted xs h past = rw (nth-past xs h past, expected-in)
+
+-- a record that is read says what it expects
+pub expected-read : {R E : Type 0} (wanted : R → ℕ → Option E) (xs : List R) (h : ℕ) (r : R) → h < length xs → r ≡ getD xs h r → expected-in wanted xs h ≡ wanted r h
+expected-read wanted xs h r l is = rw (nth-read xs (length xs) h r refl l is, expected-in)
 
 module _ {R E : Type 0} (le : E → E → Bool) (home : E → ℕ) (get : R → E) (note : R → ℕ) (ord : Ordered le) (x : ℕ → Option E) where
   expects-some : (o : Option E) (e : E) → expects le o e ≡ true → o ≡ Some e
@@ -165,3 +173,41 @@ module _ {R E : Type 0} (le : E → E → Bool) (home : E → ℕ) (get : R → 
   pub holds-roster : (n : ℕ) (xs : List R) → Holds le home get note x n xs → roster-right le home get note x xs ≡ true
   holds-roster n [] H = refl
   holds-roster n (d ∷ rest) H = holds-right d (d ∷ rest) _ (subst (λ (m : ℕ). Holds le home get note x m (d ∷ rest)) (holds-count le home get note H) H)
+
+  -- the answers of the check
+  module _ (xs : List R) (past : (h : ℕ) → length xs ≤ h → x h ≡ None) (n : ℕ) (counted : n ≡ expected-count x (length xs)) where
+    -- what an answer says
+    abbrev pub Answered : Option ℕ → Type 0
+    Answered o = (o ≡ cond (roster-right le home get note x xs) (Some (expected-count x (length xs))) None) × Decided le home get note x xs o
+
+    refused : roster-right le home get note x xs ≡ false → Answered None
+    refused f = (sym (cond-false _ _ _ f), λ m H. both-ways _ f (holds-roster m xs H))
+
+    pub slot-refused : (i : ℕ) → IsFailing (λ d. slot-right le home get note x d xs) n (Some i) → Answered None
+    slot-refused i (l, fails) = refused (go xs counted l fails)
+      where
+        go : (ys : List R) → n ≡ expected-count x (length ys) → i < n → ((d : R) → slot-right le home get note x d ys i ≡ false) → roster-right le home get note x ys ≡ false
+        go [] is l f = absurd (omega (arith, is))
+        go (d ∷ rest) is l f = and-left _ _ (one-fails _ _ i (subst (λ (m : ℕ). i < m) is l) (f d))
+
+    pub home-refused : (h : ℕ) → IsFailing (λ d. home-right home get note x n d xs) (length xs) (Some h) → Answered None
+    home-refused h (l, fails) = refused (go xs counted l fails)
+      where
+        go : (ys : List R) → n ≡ expected-count x (length ys) → h < length ys → ((d : R) → home-right home get note x n d ys h ≡ false) → roster-right le home get note x ys ≡ false
+        go [] is l f = absurd (omega arith)
+        go (d ∷ rest) is l f = and-right _ _ (one-fails _ _ h l (subst (λ (m : ℕ). home-right home get note x m d (d ∷ rest) h ≡ false) is (f d)))
+
+    pub accepted : IsFailing (λ d. slot-right le home get note x d xs) n None → IsFailing (λ d. home-right home get note x n d xs) (length xs) None → Answered (Some n)
+    accepted slots homes = (
+      ap Some counted ∙ sym (cond-true _ _ _ right),
+      subst (λ (m : ℕ). Holds le home get note x m xs) (sym counted) (roster-holds xs past right),
+    )
+      where
+        go : (ys : List R) → n ≡ expected-count x (length ys) → ((k : ℕ) → k < n → (d : R) → slot-right le home get note x d ys k ≡ true)
+            → ((k : ℕ) → k < length ys → (d : R) → home-right home get note x n d ys k ≡ true) → roster-right le home get note x ys ≡ true
+        go [] is s h = refl
+        go (d ∷ rest) is s h = subst (λ (m : ℕ). all-right le home get note x m d (d ∷ rest) ≡ true) is
+            (and-from _ _ (each-every _ n (λ k l. s k l d)) (each-every _ _ (λ k l. h k l d)))
+
+        right : roster-right le home get note x xs ≡ true
+        right = go xs counted slots homes

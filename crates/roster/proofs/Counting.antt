@@ -4,6 +4,7 @@ use mathlib.Core.Bool.{Bool, true, false, cond}
 use mathlib.Core.List.{List, [], _∷_, map}
 use mathlib.Core.Logic.{⊎-elim}
 use Prim.Native.Nat.{ℕ, zero, suc, _+_, _<_, _≤_}
+use native.Mathlib.Numerals.{add-one}
 use native.Mathlib.Omega.{arith}
 use lib.Dec.{eqb, ltb}
 use lib.ListN.{length, getD, length-take}
@@ -48,6 +49,10 @@ module _ {E : Type 0} (home : E → ℕ) where
   count-below-zero : (es : List E) → countBy (below 0) es ≡ 0
   count-below-zero [] = refl
   count-below-zero (y ∷ ys) = omega (arith, count-cons (below 0) y ys, tally-false _ (le-ltb (home y) 0 (omega arith)), count-below-zero ys)
+
+-- one more home
+pub expected-count-more : {E : Type 0} (x : ℕ → Option E) (m n : ℕ) (o : Option E) (b : Bool) → n ≡ expected-count x m → o ≡ x m → b ≡ isSome o → expected-count x (m + 1) ≡ n + tally b
+expected-count-more x m n o b counted is some = rw add-one (ap (λ (k : ℕ). k + tally (isSome (x m))) (sym counted) ∙ ap (λ (c : Bool). n + tally c) (sym (some ∙ ap isSome is)))
 
 -- homes that are not expected make the count smaller
 pub expected-count-le : {E : Type 0} (x : ℕ → Option E) (m : ℕ) → expected-count x m ≤ m

@@ -69,5 +69,5 @@ Decided at-most home-of entry-of note-of expected slots None = (n : ℕ) → Hol
 
 -- A number below n that fails, or none where all pass, whatever stands past the last slot.
 abbrev pub IsFailing : {R : Type 0} → (R → ℕ → Bool) → ℕ → Option ℕ → Type 0
-IsFailing {R} passes n None = (d : R) (k : ℕ) → k < n → passes d k ≡ true
+IsFailing {R} passes n None = (k : ℕ) → k < n → (d : R) → passes d k ≡ true
 IsFailing {R} passes n (Some i) = (i < n) × ((d : R) → passes d i ≡ false)
