@@ -1,1 +1,3 @@
 pub mod Seats
+pub mod Table
+pub mod Order

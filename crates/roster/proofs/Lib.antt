@@ -1,0 +1,5 @@
+pub mod Expectations
+pub mod Holding
+pub mod Keeping
+pub mod Counting
+pub mod Checking

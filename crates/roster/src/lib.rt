@@ -1,0 +1,2 @@
+// An indexed queue that holds exactly the homes that are expected in it, each with its expected entry.
+pub mod check;
