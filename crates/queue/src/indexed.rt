@@ -80,7 +80,7 @@ pub fn replace<Q, R: Homed<Q>>(slots: &mut [R], n: usize, home: usize, e: R::Ent
 }
 
 // The slot that the home notes.
-fn slot_of<Q, R: Homed<Q>>(slots: &[R], home: usize) -> usize
+pub fn slot_of<Q, R: Homed<Q>>(slots: &[R], home: usize) -> usize
     requires { ⌜ home < length (now slots) ⌝ }
     ensures { λ i. ⌜ ((r : _) → noteOf (getD (now (slots .entry)) home r) ≡ i) ⌝ }
 {

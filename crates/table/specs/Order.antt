@@ -45,18 +45,18 @@ in-order s t =
     && roster-right near-at-most near-place-of near-entry near-note (expected-in (near-wanted s (least-hope (records t))) t) t))
 
 -- The same by what it is, with the numbers of open and of near places.
-pub record InOrder (s : Search) (opened near : ℕ) (t : List Node) : Type 0 where
+pub record InOrder (s : Search) (opened nears : ℕ) (t : List Node) : Type 0 where
   pub limits : (p : ℕ) → RecordLimits (at (records t) p)
   pub low : Holds cost-at-most cost-place low-entry low-note (expected-in low-wanted t) opened t
   pub hope : Holds cost-at-most cost-place hope-entry hope-note (expected-in hope-wanted t) opened t
-  pub near : Holds near-at-most near-place-of near-entry near-note (expected-in (near-wanted s (least-hope (records t))) t) near t
+  pub near : Holds near-at-most near-place-of near-entry near-note (expected-in (near-wanted s (least-hope (records t))) t) nears t
 
 -- A table while an advance runs: the near queue holds the open places on the near side, the far queue those on the far side, and
 -- every place on the far side is beyond the cover: b × f̂ is above a × cover.
-pub record Ready (s : Search) (opened near far cover : ℕ) (t : List Node) : Type 0 where
+pub record Ready (s : Search) (opened nears fars cover : ℕ) (t : List Node) : Type 0 where
   pub limits : (p : ℕ) → RecordLimits (at (records t) p)
   pub low : Holds cost-at-most cost-place low-entry low-note (expected-in low-wanted t) opened t
   pub hope : Holds cost-at-most cost-place hope-entry hope-note (expected-in hope-wanted t) opened t
-  pub near : Holds near-at-most near-place-of near-entry near-note (expected-in (near-side-wanted s) t) near t
-  pub far : Holds cost-at-most cost-place far-entry far-note (expected-in far-side-wanted t) far t
+  pub near : Holds near-at-most near-place-of near-entry near-note (expected-in (near-side-wanted s) t) nears t
+  pub far : Holds cost-at-most cost-place far-entry far-note (expected-in far-side-wanted t) fars t
   pub covered : (d : Node) (p : ℕ) → p < length t → far-side (getD t p d) ≡ true → within s cover (getD t p d .kept) ≡ false
