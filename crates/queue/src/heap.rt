@@ -32,7 +32,7 @@ pub fn insert<Q, R: Slot<Q>>(slots: &mut [R], n: usize, e: R::Entry) -> usize
     settle::<Q, R>(slots, n + 1, n, e)
 }
 
-// Removes the entry in slot i of a queue of n, and returns the deepest slot that changed.
+// Removes the entry in slot i of a queue of n, and returns the deepest slot that changed, or 0 where i was the last slot and nothing moved.
 pub fn remove_at<Q, R: Slot<Q>>(slots: &mut [R], n: usize, i: usize) -> usize
     requires { ⌜ n ≤ length (now slots) ⌝ ∗ ⌜ i < n ⌝ }
     ensures queue { λ _. ⌜ RemovedAt (Entry·Ranked .atMost) i (entries entryOf n (now (slots .entry))) (entries entryOf (n - 1) (now (slots .exit))) ⌝ }
