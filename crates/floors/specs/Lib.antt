@@ -4,3 +4,4 @@ pub mod Sound
 pub mod Guided
 pub mod Consistent
 pub mod Listing
+pub mod Questions
