@@ -4,3 +4,10 @@ pub mod Sound
 pub mod Guided
 pub mod Consistent
 pub mod Listing
+pub mod Questions
+pub mod Grid
+pub mod Bytes
+pub mod GridSound
+pub mod GridQuestions
+pub mod GridMade
+pub mod GridSample
