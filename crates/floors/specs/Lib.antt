@@ -11,3 +11,7 @@ pub mod GridSound
 pub mod GridQuestions
 pub mod GridMade
 pub mod GridSample
+pub mod Transfer
+pub mod Shut
+pub mod ShutSound
+pub mod ShutQuestions

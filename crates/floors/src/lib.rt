@@ -8,3 +8,6 @@ pub mod grid_sample;
 mod grid_shape;
 pub mod guided;
 pub mod leg;
+pub mod shut;
+pub mod shut_fault;
+mod shut_set;
