@@ -9,3 +9,4 @@ pub mod Faults
 pub mod Checked
 pub mod Intake
 pub mod Sample
+pub mod ShutSample

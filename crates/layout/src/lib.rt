@@ -13,6 +13,7 @@ mod records;
 mod refused;
 mod sample;
 mod shape;
+pub mod shut_sample;
 
 pub use accept::intake;
 pub use fault::LayoutFault;
