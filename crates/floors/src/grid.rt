@@ -62,12 +62,7 @@ impl Grid {
     pub fn into_cells(self) -> Vec<u8>
         ensures { λ r. ⌜ r ≡ self .cells ⌝ }
     {
-        let Grid {
-            cells,
-            shape: _,
-            least: _,
-            most: _,
-        } = self;
+        let Grid { cells, .. } = self;
         cells
     }
 

@@ -1,6 +1,7 @@
 // The shut floor: a floor with places that no leg enters.
 ghost use mathlib.Core.Path.{_≡_};
 ghost use denote.Ref.{now};
+ghost use lib.Dec.{ltb};
 ghost use Rattle.floors.specs.Questions.{first-no, refusal};
 ghost use Rattle.floors.specs.Shut.{no-places, contains, members, unless-shut, shut-floor};
 ghost use Rattle.floors.specs.ShutQuestions.{shut-number, shut-questions, unshut-questions, after-shut, after-unshut};
@@ -70,17 +71,24 @@ impl<F> Shut<F> {
 }
 
 impl<F: Floor> Shut<F> {
+    // Whether it is a place of the floor.
+    fn is_place(&self, place: u32) -> bool
+        ensures { λ r. ⌜ r ≡ ltb place (F·Floor .meaning (now (self .entry) .floor) .size) ⌝ }
+    {
+        place < Floor::places(self)
+    }
+
     // The questions of `shut`.
     fn ask_shut(&self, place: u32) -> Result<(), ShutFault>
         ensures { λ r. ⌜ refusal shut-number r ≡ first-no (shut-questions (F·Floor .meaning (now (self .entry) .floor) .size) (now (self .entry) .places .flags) place) ⌝ }
     {
-        if place >= self.floor.places() {
+        if !self.is_place(place) {
             return Err(ShutFault::NoPlace);
         }
-        if self.places.contains(place) {
+        if self.is_shut(place) {
             return Err(ShutFault::AlreadyShut);
         }
-        if self.places.count() >= 64 {
+        if self.count() >= 64 {
             return Err(ShutFault::TooMany);
         }
         Ok(())
@@ -90,10 +98,10 @@ impl<F: Floor> Shut<F> {
     fn ask_unshut(&self, place: u32) -> Result<(), ShutFault>
         ensures { λ r. ⌜ refusal shut-number r ≡ first-no (unshut-questions (F·Floor .meaning (now (self .entry) .floor) .size) (now (self .entry) .places .flags) place) ⌝ }
     {
-        if place >= self.floor.places() {
+        if !self.is_place(place) {
             return Err(ShutFault::NoPlace);
         }
-        if !self.places.contains(place) {
+        if !self.is_shut(place) {
             return Err(ShutFault::NotShut);
         }
         Ok(())

@@ -1,6 +1,11 @@
 // Grids, and what is expected of answers.
+use floors::floor::Floor;
 use floors::grid::Grid;
+use floors::guided::GuidedFloor;
 use floors::leg::Leg;
+use floors::leg::LegDebug;
+use floors::leg::LegPartialEq;
+use floors::shut::Shut;
 use floors::shut_fault::ShutFault;
 use std::alloc::Global;
 use std::test::*;
@@ -17,14 +22,7 @@ pub fn grid(heap: Global, width: u32, height: u32, cells: &[u8], goal: u32) -> R
 }
 
 // The grid is refused by that question, and its cells come back.
-pub fn refuses(
-    heap: Global,
-    width: u32,
-    height: u32,
-    cells: &[u8],
-    goal: u32,
-    number: u32,
-) -> Result<(), Fail> {
+pub fn refuses(heap: Global, width: u32, height: u32, cells: &[u8], goal: u32, number: u32) -> Result<(), Fail> {
     match Grid::new(width, height, cells.to_vec(heap)?, goal) {
         Ok(_) => Err(Fail::new("accepted")),
         Err(refused) => {
@@ -34,21 +32,40 @@ pub fn refuses(
     }
 }
 
-// The leg is usable, with that target and cost.
-pub fn leads(leg: Option<Leg>, target: u32, cost: u32) -> Result<(), Fail> {
-    match leg {
-        Some(leg) => {
-            check_eq(leg.target, target)?;
-            check_eq(leg.cost, cost)
-        }
-        None => Err(Fail::new("barred")),
+// A usable leg with that target and cost.
+pub fn to(target: u32, cost: u32) -> Option<Leg> {
+    Some(Leg { target, cost })
+}
+
+// The first four legs of the place.
+pub fn legs_are<F: Floor>(floor: &F, place: u32, legs: [Option<Leg>; 4]) -> Result<(), Fail> {
+    for number in 0..4 {
+        check_eq(floor.leg(place, number), legs[number as usize])?;
     }
+    Ok(())
+}
+
+// The low, hope and step estimates of the place.
+pub fn estimates_are<F: GuidedFloor>(floor: &F, place: u32, low: u32, hope: u32, steps: u32) -> Result<(), Fail> {
+    check_eq(floor.low(place), low)?;
+    check_eq(floor.hope(place), hope)?;
+    check_eq(floor.steps(place), steps)
 }
 
 // The number of the question answered no, or 0.
-pub fn number(answer: Result<(), ShutFault>) -> u32 {
+fn number(answer: Result<(), ShutFault>) -> u32 {
     match answer {
         Ok(()) => 0,
         Err(fault) => fault.number(),
     }
+}
+
+// Shuts the place: accepted if the number is 0, else refused by that question.
+pub fn shuts<F: Floor>(floor: &mut Shut<F>, place: u32, expected: u32) -> Result<(), Fail> {
+    check_eq(number(floor.shut(place)), expected)
+}
+
+// Unshuts the place: accepted if the number is 0, else refused by that question.
+pub fn unshuts<F: Floor>(floor: &mut Shut<F>, place: u32, expected: u32) -> Result<(), Fail> {
+    check_eq(number(floor.unshut(place)), expected)
 }

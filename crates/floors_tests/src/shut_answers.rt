@@ -1,8 +1,11 @@
 // What shut floors answer, over floors of every kind.
 use crate::build::NINE;
+use crate::build::estimates_are;
 use crate::build::grid;
-use crate::build::leads;
-use crate::build::number;
+use crate::build::legs_are;
+use crate::build::shuts;
+use crate::build::to;
+use crate::build::unshuts;
 use floors::floor::BorrowedFloor;
 use floors::floor::Floor;
 use floors::grid::GridFloor;
@@ -18,60 +21,45 @@ use layout::shut_sample::shut_place;
 use layout::six_places;
 use std::test::*;
 
-// Shutting the place bars that leg, and changes nothing else of these answers.
-fn bars<F: GuidedFloor + Drop>(floor: F, place: u32, from: u32, leg: u32) -> Result<(), Fail> {
+// Over a floor that means three by three cells of bytes 1 to 9 with goal 8, shutting place 1 bars leg 0 of place 4.
+fn bars<F: GuidedFloor + Drop>(floor: F) -> Result<(), Fail> {
     let mut shut = Shut::new(floor);
-    check(shut.leg(from, leg).is_some())?;
-    let (legs, low) = (shut.legs(from), shut.low(from));
-    let (hope, steps) = (shut.hope(from), shut.steps(from));
-    check_eq(number(shut.shut(place)), 0)?;
-    check(shut.leg(from, leg).is_none())?;
-    check_eq(shut.legs(from), legs)?;
-    check_eq(shut.low(from), low)?;
-    check_eq(shut.hope(from), hope)?;
-    check_eq(shut.steps(from), steps)
+    shuts(&mut shut, 1, 0)?;
+    check_eq(shut.legs(4), 4)?;
+    legs_are(&shut, 4, [None, to(5, 6), to(7, 8), to(3, 4)])?;
+    estimates_are(&shut, 0, 4, 20, 4)
 }
 
 #[test]
 fn over_any_floor(rt: LibcRuntime) -> Result<(), Fail> {
     let grid = grid(rt.alloc(), 3, 3, &NINE, 8)?;
-    bars(&grid, 1, 4, 0)?;
-    bars(Shut::new(&grid), 5, 4, 1)?;
-    bars(Shut::new(Shut::new(&grid)), 7, 4, 2)?;
-    bars(Shut::new(grid), 3, 4, 3)
+    bars(&grid)?;
+    bars(Shut::new(&grid))?;
+    bars(Shut::new(Shut::new(&grid)))?;
+    bars(grid)
 }
 
 #[test]
-fn all_else_is_below(rt: LibcRuntime) -> Result<(), Fail> {
+fn goal_shut(rt: LibcRuntime) -> Result<(), Fail> {
     let mut floor = Shut::new(grid(rt.alloc(), 3, 3, &NINE, 8)?);
-    check_eq(number(floor.shut(8)), 0)?;
+    shuts(&mut floor, 8, 0)?;
     check_eq(floor.places(), 9)?;
-    check_eq(floor.legs(4), 4)?;
     check(floor.is_goal(8))?;
-    check_eq(floor.low(0), 4)?;
-    check_eq(floor.hope(0), 20)?;
-    check_eq(floor.steps(0), 4)?;
-    check(floor.leg(5, 2).is_none())?;
-    check(floor.leg(7, 1).is_none())?;
-    leads(floor.leg(8, 0), 5, 6)?;
-    check(floor.into_floor().leg(5, 2).is_some())
+    legs_are(&floor, 5, [to(2, 3), None, None, to(4, 5)])?;
+    legs_are(&floor, 8, [to(5, 6), None, None, to(7, 8)])?;
+    legs_are(&floor.into_floor(), 5, [to(2, 3), None, to(8, 9), to(4, 5)])
 }
 
 #[test]
 fn shut_over_shut(rt: LibcRuntime) -> Result<(), Fail> {
     let mut below = Shut::new(grid(rt.alloc(), 3, 3, &NINE, 8)?);
-    check_eq(number(below.shut(1)), 0)?;
+    shuts(&mut below, 1, 0)?;
     let mut above = Shut::new(below);
-    check_eq(above.count(), 0)?;
-    check_eq(number(above.shut(1)), 0)?;
-    check_eq(number(above.shut(3)), 0)?;
-    check_eq(number(above.unshut(1)), 0)?;
-    check(above.leg(4, 0).is_none())?;
-    check(above.leg(4, 3).is_none())?;
-    leads(above.leg(4, 1), 5, 6)?;
-    let below = above.into_floor();
-    check(below.leg(4, 0).is_none())?;
-    leads(below.leg(4, 3), 3, 4)
+    shuts(&mut above, 1, 0)?;
+    shuts(&mut above, 3, 0)?;
+    unshuts(&mut above, 1, 0)?;
+    legs_are(&above, 4, [None, to(5, 6), to(7, 8), None])?;
+    legs_are(&above.into_floor(), 4, [None, to(5, 6), to(7, 8), to(3, 4)])
 }
 
 #[test]
@@ -79,13 +67,11 @@ fn two_over_one(rt: LibcRuntime) -> Result<(), Fail> {
     let grid = grid(rt.alloc(), 3, 3, &NINE, 8)?;
     let mut first = Shut::new(&grid);
     let mut second = Shut::new(&grid);
-    check_eq(number(first.shut(1)), 0)?;
-    check_eq(number(second.shut(3)), 0)?;
-    check(first.leg(4, 0).is_none())?;
-    leads(first.leg(4, 3), 3, 4)?;
-    leads(second.leg(4, 0), 1, 2)?;
-    check(second.leg(4, 3).is_none())?;
-    leads(grid.leg(4, 0), 1, 2)
+    shuts(&mut first, 1, 0)?;
+    shuts(&mut second, 3, 0)?;
+    legs_are(&first, 4, [None, to(5, 6), to(7, 8), to(3, 4)])?;
+    legs_are(&second, 4, [to(1, 2), to(5, 6), to(7, 8), None])?;
+    legs_are(&grid, 4, [to(1, 2), to(5, 6), to(7, 8), to(3, 4)])
 }
 
 #[test]
@@ -93,11 +79,10 @@ fn over_a_layout(rt: LibcRuntime) -> Result<(), Fail> {
     match intake(six_places().to_vec(rt.alloc())?) {
         Ok(floor) => {
             let mut shut = Shut::new(&floor);
-            leads(shut.leg(2, 1), 4, 4)?;
-            check_eq(number(shut.shut(shut_place())), 0)?;
-            check(shut.leg(2, 1).is_none())?;
-            leads(shut.leg(2, 0), 3, 5)?;
-            check_eq(number(shut.shut(6)), 21)
+            legs_are(&shut, 2, [to(3, 5), to(4, 4), None, None])?;
+            shuts(&mut shut, shut_place(), 0)?;
+            legs_are(&shut, 2, [to(3, 5), None, None, None])?;
+            shuts(&mut shut, 6, 21)
         }
         Err(_) => Err(Fail::new("refused")),
     }
