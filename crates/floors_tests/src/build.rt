@@ -22,7 +22,14 @@ pub fn grid(heap: Global, width: u32, height: u32, cells: &[u8], goal: u32) -> R
 }
 
 // The grid is refused by that question, and its cells come back.
-pub fn refuses(heap: Global, width: u32, height: u32, cells: &[u8], goal: u32, number: u32) -> Result<(), Fail> {
+pub fn refuses(
+    heap: Global,
+    width: u32,
+    height: u32,
+    cells: &[u8],
+    goal: u32,
+    number: u32,
+) -> Result<(), Fail> {
     match Grid::new(width, height, cells.to_vec(heap)?, goal) {
         Ok(_) => Err(Fail::new("accepted")),
         Err(refused) => {
@@ -46,7 +53,13 @@ pub fn legs_are<F: Floor>(floor: &F, place: u32, legs: [Option<Leg>; 4]) -> Resu
 }
 
 // The low, hope and step estimates of the place.
-pub fn estimates_are<F: GuidedFloor>(floor: &F, place: u32, low: u32, hope: u32, steps: u32) -> Result<(), Fail> {
+pub fn estimates_are<F: GuidedFloor>(
+    floor: &F,
+    place: u32,
+    low: u32,
+    hope: u32,
+    steps: u32,
+) -> Result<(), Fail> {
     check_eq(floor.low(place), low)?;
     check_eq(floor.hope(place), hope)?;
     check_eq(floor.steps(place), steps)
