@@ -5,3 +5,13 @@ pub mod Guided
 pub mod Consistent
 pub mod Listing
 pub mod Questions
+pub mod Grid
+pub mod Bytes
+pub mod GridSound
+pub mod GridQuestions
+pub mod GridMade
+pub mod GridSample
+pub mod Transfer
+pub mod Shut
+pub mod ShutSound
+pub mod ShutQuestions

@@ -12,3 +12,7 @@ pub record Meaning : Type 0 where
   pub leg : ℕ → ℕ → Option Leg
   pub goal : ℕ → Bool
   pub low : ℕ → ℕ
+
+-- The same floor with other legs.
+abbrev pub with-legs : Meaning → (ℕ → ℕ → Option Leg) → Meaning
+with-legs m leg = record { size = m .size; count = m .count; leg = leg; goal = m .goal; low = m .low }

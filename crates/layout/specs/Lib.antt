@@ -10,3 +10,4 @@ pub mod Checked
 pub mod Intake
 pub mod Encoding
 pub mod Sample
+pub mod ShutSample

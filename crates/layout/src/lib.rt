@@ -14,6 +14,7 @@ mod records;
 mod refused;
 mod sample;
 mod shape;
+pub mod shut_sample;
 
 pub use accept::intake;
 pub use encode::encode_leg;
