@@ -141,9 +141,9 @@ fn wrong_home<Q, R: Homed<Q>, M: Expect<Q, R>>(rule: &M, slots: &[R], n: usize) 
     requires { ⌜ n ≤ length (now slots) ⌝ }
     ensures { λ r. ⌜ IsFailing (λ d. home-right (R·Homed .homeOf) (R·Slot .entryOf) (R·Homed .noteOf) (expected-in (M·Expect .wanted (now (rule .entry))) (now (slots .entry))) n d (now (slots .entry))) (length (now (slots .entry))) r ⌝ }
 {
-    for home in 0..slots.len() {
-        if !is_home_right::<Q, R, M>(rule, slots, n, home) {
-            return Some(home);
+    for h in 0..slots.len() {
+        if !is_home_right::<Q, R, M>(rule, slots, n, h) {
+            return Some(h);
         }
     }
     None
