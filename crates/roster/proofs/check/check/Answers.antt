@@ -13,10 +13,10 @@ few : {E : Type 0} (x : ℕ → Option E) (m n : ℕ) → n ≡ expected-count x
 few x m n is = omega (arith, expected-count-le x m)
 
 pub wrong-slot-requires : need.wrong-slot-requires
-wrong-slot-requires g c κs = few _ _ _ (c .count-expected-n .ensures)
+wrong-slot-requires g c κs = (few _ _ _ (c .count-expected-n .ensures), c .pre)
 
 pub wrong-home-requires : need.wrong-home-requires
-wrong-home-requires g c κs = few _ _ _ (c .count-expected-n .ensures)
+wrong-home-requires g c κs = (few _ _ _ (c .count-expected-n .ensures), c .pre)
 
 pub returns-in-Some : need.returns-in-Some
 returns-in-Some g c =
