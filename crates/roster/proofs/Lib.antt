@@ -2,4 +2,5 @@ pub mod Expectations
 pub mod Holding
 pub mod Keeping
 pub mod Counting
+pub mod Wishes
 pub mod Checking

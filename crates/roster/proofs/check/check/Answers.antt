@@ -5,8 +5,9 @@ use lib.ListN.{length}
 use Rattle.std.specs.declared.option.Option.{Option}
 use Rattle.roster.specs.Check.{expected-in}
 use Rattle.roster.specs.Holds.{expected-count}
-use Rattle.roster.proofs.Checking.{expected-past, slot-refused, home-refused, accepted}
+use Rattle.roster.proofs.Checking.{slot-refused, home-refused, accepted}
 use Rattle.roster.proofs.Counting.{expected-count-le}
+use Rattle.roster.proofs.Wishes.{expected-past}
 use Rattle.roster.proofs.check.check.Needs as need
 
 few : {E : Type 0} (x : ℕ → Option E) (m n : ℕ) → n ≡ expected-count x m → n ≤ m

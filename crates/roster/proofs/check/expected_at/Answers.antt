@@ -1,5 +1,5 @@
 use mathlib.Core.Path.{sym, _∙_}
-use Rattle.roster.proofs.Checking.{expected-read}
+use Rattle.roster.proofs.Wishes.{expected-read}
 use Rattle.roster.proofs.check.expected_at.Needs as need
 
 pub returns : need.returns
