@@ -1,3 +1,4 @@
+pub mod Orders
 pub mod Expectations
 pub mod Holding
 pub mod Keeping
