@@ -1,11 +1,11 @@
 -- The check of a roster decides whether the queue holds what is expected.
 use mathlib.Core.Path.{_≡_, refl, sym, ap, subst, _∙_}
-use mathlib.Core.Bool.{Bool, true, false, cond, _&&_, _||_}
+use mathlib.Core.Bool.{Bool, true, false, cond}
 use mathlib.Core.List.{List, [], _∷_, map}
-use mathlib.Core.Logic.{_⊎_, inl, inr, ⊎-elim}
+use mathlib.Core.Logic.{_⊎_, ⊎-elim}
 use Prim.Native.Nat.{ℕ, zero, suc, _<_, _≤_}
 use native.Mathlib.Omega.{arith}
-use lib.Dec.{eqb, ltb}
+use lib.Dec.{eqb}
 use lib.ListN.{length, getD, length-take}
 use lib.Seq.{getD-take}
 use Rattle.std.proofs.shelf.Lists.{getD-map, getD-default, length-map}
@@ -14,11 +14,10 @@ use Rattle.std.specs.declared.option.Option.{Option}
 use Rattle.std.specs.declared.option.Option.the-variants.{Some, None}
 use Rattle.queue.specs.Entries.{entries, entry-at}
 use Rattle.queue.specs.Heap.{Heap, parent-slot}
-use Rattle.queue.specs.Notes.{NotesRight, Present}
 use Rattle.queue.specs.Order.{Ordered}
 use Rattle.queue.proofs.Holes.{at-most-self}
 use Rattle.roster.specs.Holds.{Holds, expected-count}
-use Rattle.roster.specs.Check.{every, expects, fits-slot, entry-right, slot-right, names-home, home-right, all-right, roster-right, Decided, IsFailing}
+use Rattle.roster.specs.Check.{every, expects, entry-right, slot-right, names-home, home-right, all-right, roster-right, Decided, IsFailing}
 use Rattle.roster.proofs.Counting.{expected-count-le, holds-count}
 use Rattle.roster.proofs.Expectations.{none-some}
 use Rattle.roster.proofs.Holding.{holds-none}

@@ -4,7 +4,6 @@ ghost use mathlib.Core.Bool.{cond};
 ghost use Prim.Native.Nat.{ℕ, _<_, _≤_};
 ghost use denote.Ref.{now};
 ghost use lib.ListN.{length, getD};
-ghost use Rattle.queue.specs.Heap.{parent-slot};
 ghost use Rattle.roster.specs.Holds.{expected-count};
 ghost use Rattle.roster.specs.Check.{expected-in, expects, fits-slot, entry-right, slot-right, names-home, home-right, roster-right, Decided, IsFailing};
 ghost use Rattle.std.specs.declared.option.Option.{Option};

@@ -1,13 +1,11 @@
 use mathlib.Core.Path.{_≡_, refl, sym, ap, _∙_}
-use Prim.Native.Nat.{ℕ, _<_}
+use Prim.Native.Nat.{_<_}
 use native.Mathlib.Omega.{arith}
 use lib.ListN.{length, getD}
 use Rattle.std.proofs.shelf.Tests.{cond-false, ne-eqb}
-use Rattle.std.specs.declared.option.Option.{Option}
-use Rattle.std.specs.declared.option.Option.the-variants.{Some, None}
+use Rattle.std.specs.declared.option.Option.the-variants.{Some}
 use Rattle.queue.specs.Keys.{cost-at-most}
 use Rattle.queue.specs.declared.entry.CostEntry.{CostEntry}
-use Rattle.roster.specs.Check.{expected-in}
 use Rattle.roster.proofs.Orders.{cost-ordered}
 use Rattle.roster.proofs.Expectations.{put-same}
 use Rattle.roster.proofs.Holding.{holds-absent, holds-inserted, holds-same}

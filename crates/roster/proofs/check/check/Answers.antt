@@ -1,7 +1,6 @@
 use Prim.Native.Nat.{ℕ, _≤_}
 use mathlib.Core.Path.{_≡_}
 use native.Mathlib.Omega.{arith}
-use lib.ListN.{length}
 use Rattle.std.specs.declared.option.Option.{Option}
 use Rattle.roster.specs.Check.{expected-in}
 use Rattle.roster.specs.Holds.{expected-count}
