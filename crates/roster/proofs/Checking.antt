@@ -1,26 +1,23 @@
 -- The check of a roster decides whether the queue holds what is expected.
 use mathlib.Core.Path.{_≡_, refl, sym, ap, subst, _∙_}
-use mathlib.Core.Bool.{Bool, true, false, cond, _&&_, _||_}
+use mathlib.Core.Bool.{Bool, true, false, cond}
 use mathlib.Core.List.{List, [], _∷_, map}
-use mathlib.Core.Logic.{_⊎_, inl, inr, ⊎-elim}
+use mathlib.Core.Logic.{_⊎_, ⊎-elim}
 use Prim.Native.Nat.{ℕ, zero, suc, _<_, _≤_}
 use native.Mathlib.Omega.{arith}
-use lib.Dec.{eqb, ltb}
+use lib.Dec.{eqb}
 use lib.ListN.{length, getD, length-take}
 use lib.Seq.{getD-take}
 use Rattle.std.proofs.shelf.Lists.{getD-map, getD-default, length-map}
-use Rattle.std.proofs.shelf.Maps.{nth-past, nth-read}
 use Rattle.std.proofs.shelf.Tests.{cases-eq, cases-lt, cases-bool, and-parts, and-from, and-left, and-right, or-cases, or-left, or-right, eqb-true, eq-eqb, ltb-true, lt-ltb, both-ways, cond-true, cond-false}
-use Rattle.std.specs.Finite.{nth}
 use Rattle.std.specs.declared.option.Option.{Option}
 use Rattle.std.specs.declared.option.Option.the-variants.{Some, None}
 use Rattle.queue.specs.Entries.{entries, entry-at}
 use Rattle.queue.specs.Heap.{Heap, parent-slot}
-use Rattle.queue.specs.Notes.{NotesRight, Present}
 use Rattle.queue.specs.Order.{Ordered}
 use Rattle.queue.proofs.Holes.{at-most-self}
 use Rattle.roster.specs.Holds.{Holds, expected-count}
-use Rattle.roster.specs.Check.{expected-in, every, expects, fits-slot, entry-right, slot-right, names-home, home-right, all-right, roster-right, Decided, IsFailing}
+use Rattle.roster.specs.Check.{every, expects, entry-right, slot-right, names-home, home-right, all-right, roster-right, Decided, IsFailing}
 use Rattle.roster.proofs.Counting.{expected-count-le, holds-count}
 use Rattle.roster.proofs.Expectations.{none-some}
 use Rattle.roster.proofs.Holding.{holds-none}
@@ -39,14 +36,6 @@ each-every p (suc n) all = and-from (every p n) (p n) (each-every p n (λ i l. a
 -- a number that fails
 one-fails : (p : ℕ → Bool) (n i : ℕ) → i < n → p i ≡ false → every p n ≡ false
 one-fails p n i l f = ⊎-elim (λ t. absurd (both-ways (p i) f (every-each p n t i l))) (λ e. e) (cases-bool (every p n))
-
--- past the last record nothing is expected
-pub expected-past : {R E : Type 0} (wanted : R → ℕ → Option E) (xs : List R) (h : ℕ) → length xs ≤ h → expected-in wanted xs h ≡ None
-expected-past wanted xs h past = rw (nth-past xs h past, expected-in)
-
--- a record that is read says what it expects
-pub expected-read : {R E : Type 0} (wanted : R → ℕ → Option E) (xs : List R) (h : ℕ) (r : R) → h < length xs → r ≡ getD xs h r → expected-in wanted xs h ≡ wanted r h
-expected-read wanted xs h r l is = rw (nth-read xs (length xs) h r refl l is, expected-in)
 
 module _ {R E : Type 0} (le : E → E → Bool) (home : E → ℕ) (get : R → E) (note : R → ℕ) (ord : Ordered le) (x : ℕ → Option E) where
   expects-some : (o : Option E) (e : E) → expects le o e ≡ true → o ≡ Some e

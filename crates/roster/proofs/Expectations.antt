@@ -1,6 +1,6 @@
 -- Expectations with one home changed.
-use mathlib.Core.Path.{_≡_, refl, sym, ap, _∙_}
-use mathlib.Core.Bool.{Bool, true, false, cond}
+use mathlib.Core.Path.{_≡_, ap, _∙_}
+use mathlib.Core.Bool.{cond}
 use mathlib.Core.Logic.{_⊎_, _≢_, inl, inr, ⊎-elim}
 use Prim.Native.Nat.{ℕ}
 use native.Mathlib.Omega.{arith}
@@ -29,3 +29,7 @@ module _ {E : Type 0} where
     -- what is expected after is the new entry of the home, or was expected of another home
     pub put-cases : (k : ℕ) → ((k ≡ h) × (put x h o k ≡ o)) ⊎ ((k ≢ h) × (put x h o k ≡ x k))
     put-cases k = ⊎-elim (λ e. inl (e, put-here k e)) (λ ne. inr (ne, put-other k ne)) (cases-eq k h)
+
+  -- the same change of expectations that agree
+  pub put-same : (x y : ℕ → Option E) (h : ℕ) (o o′ : Option E) → ((k : ℕ) → x k ≡ y k) → o ≡ o′ → (k : ℕ) → put x h o k ≡ put y h o′ k
+  put-same x y h o o′ same e k = ap (cond (eqb k h) o) (same k) ∙ ap (λ (z : Option E). cond (eqb k h) z (y k)) e

@@ -2,7 +2,7 @@
 use mathlib.Core.Path.{_≡_, refl, sym, ap, subst, _∙_}
 use mathlib.Core.Bool.{Bool, true}
 use mathlib.Core.List.{List, map}
-use mathlib.Core.Logic.{_≢_, ⊎-elim}
+use mathlib.Core.Logic.{⊎-elim}
 use Prim.Native.Nat.{ℕ, _+_, _-_, _<_, _≤_}
 use native.Mathlib.Omega.{arith}
 use lib.ListN.{length, getD, length-take}
@@ -12,12 +12,12 @@ use Rattle.std.proofs.shelf.Lists.{getD-default, length-map}
 use Rattle.std.proofs.shelf.Tests.{cases-eq}
 use Rattle.std.specs.declared.option.Option.{Option}
 use Rattle.std.specs.declared.option.Option.the-variants.{Some, None}
-use Rattle.queue.specs.Calls.{Head, HeadEntry, Inserted, RemovedAt, ReplacedAt}
+use Rattle.queue.specs.Calls.{Head, Inserted, RemovedAt, ReplacedAt}
 use Rattle.queue.specs.Entries.{entries, entry-at, Removed, Replaced}
 use Rattle.queue.specs.Notes.{NotesRight, Absent, Present, IndexedFrame}
 use Rattle.queue.specs.Order.{Ordered}
 use Rattle.queue.specs.Rule.{QueueRule}
-use Rattle.queue.proofs.Members.{has-added, has-before-added, has-after-added, has-replaced, has-after-replaced}
+use Rattle.queue.proofs.Members.{has-before-added, has-after-added, has-replaced, has-after-replaced}
 use Rattle.queue.proofs.Parts.{some-element}
 use Rattle.queue.proofs.Presence.{present-added, present-after-added, absent-removed, present-after-removed, present-after-replaced}
 use Rattle.queue.proofs.Rules.{rule-inserted, rule-removed, rule-replaced}

@@ -4,7 +4,6 @@ ghost use mathlib.Core.Bool.{cond};
 ghost use Prim.Native.Nat.{ℕ, _<_, _≤_};
 ghost use denote.Ref.{now};
 ghost use lib.ListN.{length, getD};
-ghost use Rattle.queue.specs.Heap.{parent-slot};
 ghost use Rattle.roster.specs.Holds.{expected-count};
 ghost use Rattle.roster.specs.Check.{expected-in, expects, fits-slot, entry-right, slot-right, names-home, home-right, roster-right, Decided, IsFailing};
 ghost use Rattle.std.specs.declared.option.Option.{Option};
@@ -19,6 +18,7 @@ pub trait Expect<Q, R: Homed<Q>> {
     ghost wanted: { Self → R → ℕ → Option R·Entry };
 
     fn expected(&self, node: &R, home: usize) -> Option<R::Entry>
+        requires { ⌜ home < R·Homed .noteLimit ⌝ }
         ensures { λ r. ⌜ r ≡ wanted (now (self .entry)) (now (node .entry)) home ⌝ };
 }
 
@@ -28,7 +28,7 @@ fn expected_at<Q, R: Homed<Q>, M: Expect<Q, R>>(
     slots: &[R],
     home: usize,
 ) -> Option<R::Entry>
-    requires { ⌜ home < length (now slots) ⌝ }
+    requires { ⌜ home < length (now slots) ⌝ ∗ ⌜ length (now slots) ≤ R·Homed .noteLimit ⌝ }
     ensures { λ r. ⌜ r ≡ expected-in (M·Expect .wanted (now (rule .entry))) (now (slots .entry)) home ⌝ }
 {
     rule.expected(&slots[home], home)
@@ -36,6 +36,7 @@ fn expected_at<Q, R: Homed<Q>, M: Expect<Q, R>>(
 
 // How many homes have an expected entry.
 fn count_expected<Q, R: Homed<Q>, M: Expect<Q, R>>(rule: &M, slots: &[R]) -> usize
+    requires { ⌜ length (now slots) ≤ R·Homed .noteLimit ⌝ }
     ensures { λ n. ⌜ n ≡ expected-count (expected-in (M·Expect .wanted (now (rule .entry))) (now (slots .entry))) (length (now (slots .entry))) ⌝ }
 {
     let mut n: usize = 0;
@@ -80,7 +81,7 @@ fn is_entry_right<Q, R: Homed<Q>, M: Expect<Q, R>>(
     i: usize,
     e: R::Entry,
 ) -> bool
-    requires { ⌜ i < length (now slots) ⌝ }
+    requires { ⌜ i < length (now slots) ⌝ ∗ ⌜ length (now slots) ≤ R·Homed .noteLimit ⌝ }
     ensures { λ r. ⌜ ((d : _) → entry-right (Entry·Ranked .atMost) (R·Homed .homeOf) (R·Slot .entryOf) (R·Homed .noteOf) (expected-in (M·Expect .wanted (now (rule .entry))) (now (slots .entry))) d (now (slots .entry)) i e ≡ r) ⌝ }
 {
     let home = R::home(&e);
@@ -92,7 +93,7 @@ fn is_entry_right<Q, R: Homed<Q>, M: Expect<Q, R>>(
 
 // Whether the entry in slot i is right.
 fn is_slot_right<Q, R: Homed<Q>, M: Expect<Q, R>>(rule: &M, slots: &[R], i: usize) -> bool
-    requires { ⌜ i < length (now slots) ⌝ }
+    requires { ⌜ i < length (now slots) ⌝ ∗ ⌜ length (now slots) ≤ R·Homed .noteLimit ⌝ }
     ensures { λ r. ⌜ ((d : _) → slot-right (Entry·Ranked .atMost) (R·Homed .homeOf) (R·Slot .entryOf) (R·Homed .noteOf) (expected-in (M·Expect .wanted (now (rule .entry))) (now (slots .entry))) d (now (slots .entry)) i ≡ r) ⌝ }
 {
     is_entry_right::<Q, R, M>(rule, slots, i, entry_at::<Q, R>(slots, i))
@@ -100,7 +101,7 @@ fn is_slot_right<Q, R: Homed<Q>, M: Expect<Q, R>>(rule: &M, slots: &[R], i: usiz
 
 // A slot of n whose entry is not right, if there is one.
 fn wrong_slot<Q, R: Homed<Q>, M: Expect<Q, R>>(rule: &M, slots: &[R], n: usize) -> Option<usize>
-    requires { ⌜ n ≤ length (now slots) ⌝ }
+    requires { ⌜ n ≤ length (now slots) ⌝ ∗ ⌜ length (now slots) ≤ R·Homed .noteLimit ⌝ }
     ensures { λ r. ⌜ IsFailing (λ d. slot-right (Entry·Ranked .atMost) (R·Homed .homeOf) (R·Slot .entryOf) (R·Homed .noteOf) (expected-in (M·Expect .wanted (now (rule .entry))) (now (slots .entry))) d (now (slots .entry))) n r ⌝ }
 {
     for i in 0..n {
@@ -126,7 +127,7 @@ fn is_home_right<Q, R: Homed<Q>, M: Expect<Q, R>>(
     n: usize,
     home: usize,
 ) -> bool
-    requires { ⌜ n ≤ length (now slots) ⌝ ∗ ⌜ home < length (now slots) ⌝ }
+    requires { ⌜ n ≤ length (now slots) ⌝ ∗ ⌜ home < length (now slots) ⌝ ∗ ⌜ length (now slots) ≤ R·Homed .noteLimit ⌝ }
     ensures { λ r. ⌜ ((d : _) → home-right (R·Homed .homeOf) (R·Slot .entryOf) (R·Homed .noteOf) (expected-in (M·Expect .wanted (now (rule .entry))) (now (slots .entry))) n d (now (slots .entry)) home ≡ r) ⌝ }
 {
     if expected_at::<Q, R, M>(rule, slots, home).is_some() {
@@ -138,12 +139,12 @@ fn is_home_right<Q, R: Homed<Q>, M: Expect<Q, R>>(
 
 // A home that is not right in a queue of n, if there is one.
 fn wrong_home<Q, R: Homed<Q>, M: Expect<Q, R>>(rule: &M, slots: &[R], n: usize) -> Option<usize>
-    requires { ⌜ n ≤ length (now slots) ⌝ }
+    requires { ⌜ n ≤ length (now slots) ⌝ ∗ ⌜ length (now slots) ≤ R·Homed .noteLimit ⌝ }
     ensures { λ r. ⌜ IsFailing (λ d. home-right (R·Homed .homeOf) (R·Slot .entryOf) (R·Homed .noteOf) (expected-in (M·Expect .wanted (now (rule .entry))) (now (slots .entry))) n d (now (slots .entry))) (length (now (slots .entry))) r ⌝ }
 {
-    for home in 0..slots.len() {
-        if !is_home_right::<Q, R, M>(rule, slots, n, home) {
-            return Some(home);
+    for h in 0..slots.len() {
+        if !is_home_right::<Q, R, M>(rule, slots, n, h) {
+            return Some(h);
         }
     }
     None
@@ -151,6 +152,7 @@ fn wrong_home<Q, R: Homed<Q>, M: Expect<Q, R>>(rule: &M, slots: &[R], n: usize) 
 
 // The number of entries in the queue, if it holds exactly what is expected.
 pub fn check<Q, R: Homed<Q>, M: Expect<Q, R>>(rule: &M, slots: &[R]) -> Option<usize>
+    requires { ⌜ length (now slots) ≤ R·Homed .noteLimit ⌝ }
     ensures answer { λ r. ⌜ r ≡ cond (roster-right (Entry·Ranked .atMost) (R·Homed .homeOf) (R·Slot .entryOf) (R·Homed .noteOf) (expected-in (M·Expect .wanted (now (rule .entry))) (now (slots .entry))) (now (slots .entry))) (Some (expected-count (expected-in (M·Expect .wanted (now (rule .entry))) (now (slots .entry))) (length (now (slots .entry))))) None ⌝ }
     ensures holds { λ r. ⌜ Decided (Entry·Ranked .atMost) (R·Homed .homeOf) (R·Slot .entryOf) (R·Homed .noteOf) (expected-in (M·Expect .wanted (now (rule .entry))) (now (slots .entry))) (now (slots .entry)) r ⌝ }
 {

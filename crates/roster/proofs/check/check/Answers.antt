@@ -1,22 +1,22 @@
 use Prim.Native.Nat.{ℕ, _≤_}
 use mathlib.Core.Path.{_≡_}
 use native.Mathlib.Omega.{arith}
-use lib.ListN.{length}
 use Rattle.std.specs.declared.option.Option.{Option}
 use Rattle.roster.specs.Check.{expected-in}
 use Rattle.roster.specs.Holds.{expected-count}
-use Rattle.roster.proofs.Checking.{expected-past, slot-refused, home-refused, accepted}
+use Rattle.roster.proofs.Checking.{slot-refused, home-refused, accepted}
 use Rattle.roster.proofs.Counting.{expected-count-le}
+use Rattle.roster.proofs.Wishes.{expected-past}
 use Rattle.roster.proofs.check.check.Needs as need
 
 few : {E : Type 0} (x : ℕ → Option E) (m n : ℕ) → n ≡ expected-count x m → n ≤ m
 few x m n is = omega (arith, expected-count-le x m)
 
 pub wrong-slot-requires : need.wrong-slot-requires
-wrong-slot-requires g c κs = few _ _ _ (c .count-expected-n .ensures)
+wrong-slot-requires g c κs = (few _ _ _ (c .count-expected-n .ensures), c .pre)
 
 pub wrong-home-requires : need.wrong-home-requires
-wrong-home-requires g c κs = few _ _ _ (c .count-expected-n .ensures)
+wrong-home-requires g c κs = (few _ _ _ (c .count-expected-n .ensures), c .pre)
 
 pub returns-in-Some : need.returns-in-Some
 returns-in-Some g c =
