@@ -1,0 +1,3 @@
+pub mod Questions
+pub mod Calls
+pub mod Runs
