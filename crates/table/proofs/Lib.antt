@@ -1,0 +1,5 @@
+pub mod OrderLimits
+pub mod OrderKeys
+pub mod OrderAsked
+pub mod OrderHead
+pub mod OrderLaws
