@@ -3,3 +3,4 @@ pub mod OrderKeys
 pub mod OrderAsked
 pub mod OrderHead
 pub mod OrderLaws
+pub mod OrderChecks

@@ -63,6 +63,21 @@ pub some-when : {A : Type 0} (b : Bool) (x : A) → isSome (when b x) ≡ b
 some-when true x = refl
 some-when false x = refl
 
+pub when-none : {A : Type 0} (b : Bool) (x : A) → None ≡ when b x → b ≡ false
+when-none true x e = absurd (none-some None x refl e)
+when-none false x e = refl
+
+pub when-some : {A : Type 0} (b : Bool) (x y : A) → Some y ≡ when b x → (b ≡ true) × (y ≡ x)
+when-some true x y e = (refl, some-same (Some y) y x refl e)
+when-some false x y e = absurd (none-some (Some y) y e refl)
+
+-- another value under the same test
+pub when-some-by : {A B : Type 0} (g : A → B) (b : Bool) (x y : A) → Some y ≡ when b x → Some (g y) ≡ when b (g x)
+when-some-by g b x y e = let p = when-some b x y e in ap (λ (z : _). Some (g z)) (p .1) ∙ sym (cond-true _ _ _ (p .0))
+
+pub when-none-by : {A B : Type 0} (b : Bool) (x : A) (y : B) → None ≡ when b x → None ≡ when b y
+when-none-by b x y e = sym (cond-false _ _ _ (when-none b x e))
+
 module _ (key : Record → ℕ) (t : List Node) (h : ℕ) where
   pub expected-open : expected-in (open-entry key) t h ≡ open-of key h (at (records t) h)
   expected-open = ⊎-elim

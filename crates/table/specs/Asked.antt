@@ -51,8 +51,11 @@ open-count t = expected-count (expected-in low-wanted t) (length t)
 abbrev pub near-count : Search → ℕ → List Node → ℕ
 near-count s least t = expected-count (expected-in (near-wanted s least) t) (length t)
 
+abbrev pub queued : ℕ → ℕ → Queued
+queued o n = record { opened = o; nears = n }
+
 abbrev pub counted : Search → List Node → Queued
-counted s t = record { opened = open-count t; nears = near-count s (least-hope (records t)) t }
+counted s t = queued (open-count t) (near-count s (least-hope (records t)) t)
 
 -- A value if the test passes.
 abbrev pub when : {A : Type 0} → Bool → A → Option A

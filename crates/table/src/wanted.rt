@@ -80,6 +80,7 @@ fn is_near(state: Search, least: u32, record: Record) -> bool
 }
 
 // Every open place, by f.
+#[derive(Clone, Copy)]
 pub struct LowWanted;
 
 pub impl Expect<Low, Node> for LowWanted as LowExpect {
@@ -98,6 +99,7 @@ pub impl Expect<Low, Node> for LowWanted as LowExpect {
 }
 
 // Every open place, by f̂.
+#[derive(Clone, Copy)]
 pub struct HopeWanted;
 
 pub impl Expect<Hope, Node> for HopeWanted as HopeExpect {
@@ -116,6 +118,7 @@ pub impl Expect<Hope, Node> for HopeWanted as HopeExpect {
 }
 
 // The near set of a search for the least f̂.
+#[derive(Clone, Copy)]
 pub struct NearWanted {
     pub state: Search,
     pub least: u32,
