@@ -4,3 +4,5 @@ pub mod OrderAsked
 pub mod OrderHead
 pub mod OrderLaws
 pub mod OrderChecks
+pub mod OrderOne
+pub mod OrderFresh

@@ -42,6 +42,13 @@ module _ {E : Type 0} (wanted : Node → ℕ → Option E) (t : List Node) where
   pub expected-at : (h : ℕ) → h < length t → expected-in wanted t h ≡ wanted (getD t h blank-node) h
   expected-at h l = expected-read wanted t h (getD t h blank-node) l (getD-default t h blank-node _ l)
 
+-- what is wanted of a node by its record is expected by the table's records
+pub expected-by : {E : Type 0} (of : Record → ℕ → Option E) (t : List Node) (h : ℕ) → of blank h ≡ None → expected-in (λ (n : Node). of (n .kept)) t h ≡ of (at (records t) h) h
+expected-by of t h none = ⊎-elim
+    (λ l. expected-at (λ (n : Node). of (n .kept)) t h l ∙ ap (λ (r : Record). of r h) (sym (records-at t h)))
+    (λ past. expected-past (λ (n : Node). of (n .kept)) t h past ∙ sym none ∙ ap (λ (r : Record). of r h) (sym (records-past t h past)))
+    (cases-lt h (length t))
+
 -- in a table whose records are within their limits every node is askable
 pub asked-same : {E : Type 0} (wanted : Node → ℕ → Option E) (t : List Node) → records-right t ≡ true → length t ≤ 4294967296 → expected-in (asked wanted) t ≡ expected-in wanted t
 asked-same wanted t right few = fun-ext (λ h. ⊎-elim
@@ -56,8 +63,8 @@ asked-same wanted t right few = fun-ext (λ h. ⊎-elim
         (lt-ltb h 4294967296 (omega arith))
 
 -- an open place's entry, by its record
-abbrev open-of : (Record → ℕ) → ℕ → Record → Option CostEntry
-open-of key h r = when (is-open r) (record { cost = key r; place = h })
+abbrev pub open-of : (Record → ℕ) → Record → ℕ → Option CostEntry
+open-of key r h = when (is-open r) (record { cost = key r; place = h })
 
 pub some-when : {A : Type 0} (b : Bool) (x : A) → isSome (when b x) ≡ b
 some-when true x = refl
@@ -79,11 +86,8 @@ pub when-none-by : {A B : Type 0} (b : Bool) (x : A) (y : B) → None ≡ when b
 when-none-by b x y e = sym (cond-false _ _ _ (when-none b x e))
 
 module _ (key : Record → ℕ) (t : List Node) (h : ℕ) where
-  pub expected-open : expected-in (open-entry key) t h ≡ open-of key h (at (records t) h)
-  expected-open = ⊎-elim
-      (λ l. expected-at (open-entry key) t h l ∙ ap (open-of key h) (sym (records-at t h)))
-      (λ past. expected-past (open-entry key) t h past ∙ ap (open-of key h) (sym (records-past t h past)))
-      (cases-lt h (length t))
+  pub expected-open : expected-in (open-entry key) t h ≡ open-of key (at (records t) h) h
+  expected-open = expected-by (open-of key) t h refl
 
   -- of an open place an entry is expected
   pub open-some : Open (records t) h → expected-in (open-entry key) t h ≡ Some (record { cost = key (at (records t) h); place = h })

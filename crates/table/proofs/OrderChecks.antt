@@ -4,7 +4,6 @@ use mathlib.Core.Bool.{Bool, true, false, _&&_}
 use mathlib.Core.List.{List}
 use mathlib.Core.Logic.{⊎-elim}
 use mathlib.Core.Path.{_≡_, refl, sym, ap, subst, _∙_}
-use lib.ListN.{length}
 use Rattle.std.proofs.shelf.Tests.{both-ways, cases-bool, cond-true, cond-false}
 use Rattle.std.specs.Options.{isSome}
 use Rattle.std.specs.declared.option.Option.{Option}
@@ -14,10 +13,10 @@ use Rattle.roster.specs.Check.{IsFailing, every}
 use Rattle.search_model.specs.declared.search.Search.{Search}
 use Rattle.table.specs.declared.node.Node.{Node}
 use Rattle.table.specs.declared.order.Queued.{Queued}
-use Rattle.table.specs.Asked.{right-at, records-right, queues-right, counted, when, DecidedOrder}
+use Rattle.table.specs.Asked.{hope-right, open-count, counted, when, HopeHeld, DecidedOrder}
 use Rattle.table.specs.Fresh.{blank-node}
 use Rattle.table.specs.Order.{in-order}
-use Rattle.table.proofs.OrderLaws.{order-holds, order-tested}
+use Rattle.table.proofs.OrderLaws.{hope-holds, order-holds, order-tested}
 
 -- a number that fails, or none
 pub failing-some : (p : ℕ → Bool) (n i : ℕ) → IsFailing (λ (_ : Node). p) n (Some i) → false ≡ every p n
@@ -34,6 +33,13 @@ module _ {A : Type 0} (a b : Bool) (x : A) where
   -- and where it fails there is no answer
   pub when-first-fails : a ≡ false → None ≡ when (a && b) x
   when-first-fails p = ap (λ (c : Bool). when (c && b) x) (sym p)
+
+-- an answer of the check of the hope queue
+pub hope-held : (t : List Node) (o : Option ℕ) → o ≡ when (hope-right t) (open-count t) → HopeHeld t o
+hope-held t o e = ⊎-elim
+    (λ p. subst (HopeHeld t) (sym (e ∙ cond-true _ _ _ p)) (hope-holds t p))
+    (λ p. subst (HopeHeld t) (sym (e ∙ cond-false _ _ _ p)) tt)
+    (cases-bool (hope-right t))
 
 -- an answer that is there as often as the test passes, and what it says
 pub record Answered (s : Search) (t : List Node) (r : Option Queued) : Type 0 where

@@ -33,7 +33,7 @@ cost-or-0 None = 0
 cost-or-0 (Some e) = e .cost
 
 module _ (t : List Node) where
-  abbrev hope-or-0 : Option ℕ → ℕ
+  abbrev pub hope-or-0 : Option ℕ → ℕ
   hope-or-0 None = 0
   hope-or-0 (Some h) = f-hat (at (records t) h)
 

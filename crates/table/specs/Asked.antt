@@ -6,16 +6,16 @@ use lib.Dec.{ltb}
 use lib.ListN.{length}
 use Rattle.queue.specs.Keys.{cost-at-most, near-at-most}
 use Rattle.roster.specs.Check.{every, expected-in, roster-right}
-use Rattle.roster.specs.Holds.{expected-count}
+use Rattle.roster.specs.Holds.{Holds, expected-count}
 use Rattle.std.specs.declared.option.Option.{Option}
 use Rattle.std.specs.declared.option.Option.the-variants.{Some, None}
 use Rattle.search_model.specs.declared.search.Search.{Search}
-use Rattle.search_model.specs.Records.{at, blank}
+use Rattle.search_model.specs.Records.{at}
 use Rattle.table.specs.declared.node.Node.{Node}
 use Rattle.table.specs.declared.order.Queued.{Queued}
 use Rattle.table.specs.Seats.{low-entry, low-note, hope-entry, hope-note, near-entry, near-note}
 use Rattle.table.specs.Table.{records, low-wanted, hope-wanted, near-wanted, least-hope}
-use Rattle.table.specs.Order.{cost-place, near-place-of, record-right, in-order, InOrder}
+use Rattle.table.specs.Order.{cost-place, near-place-of, record-right, InOrder}
 
 -- The record is within its limits, and an entry can hold the place.
 abbrev pub askable : Node → ℕ → Bool
@@ -60,6 +60,11 @@ counted s t = queued (open-count t) (near-count s (least-hope (records t)) t)
 -- A value if the test passes.
 abbrev pub when : {A : Type 0} → Bool → A → Option A
 when b x = cond b (Some x) None
+
+-- What the answer of the check of the hope queue says: it holds the open places.
+abbrev pub HopeHeld : List Node → Option ℕ → Type 0
+HopeHeld t (Some n) = Holds cost-at-most cost-place hope-entry hope-note (expected-in hope-wanted t) n t
+HopeHeld t None = Unit {0}
 
 -- What the answer of the check says: the table is in order with these numbers, or with none.
 abbrev pub DecidedOrder : Search → List Node → Option Queued → Type 0

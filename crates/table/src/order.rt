@@ -8,7 +8,7 @@ ghost use Rattle.queue.specs.Keys.{cost-at-most};
 ghost use Rattle.roster.specs.Check.{IsFailing, expected-in};
 ghost use Rattle.roster.specs.Holds.{Holds};
 ghost use Rattle.std.specs.Options.{isSome};
-ghost use Rattle.table.specs.Asked.{right-at, records-right, low-right, hope-right, near-right, queues-right, open-count, near-count, counted, queued, when, DecidedOrder};
+ghost use Rattle.table.specs.Asked.{right-at, records-right, low-right, hope-right, near-right, queues-right, open-count, near-count, counted, queued, when, HopeHeld, DecidedOrder};
 ghost use Rattle.table.specs.Law.{OrderLaw};
 ghost use Rattle.table.specs.Order.{cost-place, in-order};
 ghost use Rattle.table.specs.Seats.{hope-entry, hope-note};
@@ -84,7 +84,8 @@ fn check_low(table: &[Node]) -> Option<usize>
 fn check_hope(table: &[Node]) -> Option<usize>
     requires few { ⌜ length (now table) ≤ 4294967296 ⌝ }
     requires limits { ⌜ records-right (now table) ≡ true ⌝ }
-    ensures { λ r. ⌜ r ≡ when (hope-right (now (table .entry))) (open-count (now (table .entry))) ⌝ }
+    ensures answer { λ r. ⌜ r ≡ when (hope-right (now (table .entry))) (open-count (now (table .entry))) ⌝ }
+    ensures held { λ r. ⌜ HopeHeld (now (table .entry)) r ⌝ }
 {
     check::check::<Hope, Node, HopeWanted>(&HopeWanted, table)
 }

@@ -49,7 +49,7 @@ fn can_ask(node: &Node, place: usize) -> bool
 }
 
 // f of an open place.
-fn low_sum(record: Record) -> u32
+pub fn low_sum(record: Record) -> u32
     requires { ⌜ record-right «record» ≡ true ⌝ ∗ ⌜ is-open «record» ≡ true ⌝ }
     ensures { λ r. ⌜ r ≡ f «record» ⌝ }
 {
@@ -57,7 +57,7 @@ fn low_sum(record: Record) -> u32
 }
 
 // f̂ of an open place.
-fn hope_sum(record: Record) -> u32
+pub fn hope_sum(record: Record) -> u32
     requires { ⌜ record-right «record» ≡ true ⌝ ∗ ⌜ is-open «record» ≡ true ⌝ }
     ensures { λ r. ⌜ r ≡ f-hat «record» ⌝ }
 {
@@ -129,9 +129,10 @@ pub impl Expect<Near, Node> for NearWanted as NearExpect {
 
     fn expected(&self, node: &Node, home: usize) -> Option<NearEntry> {
         if can_ask(node, home) && is_near(self.state, self.least, node.kept) {
+            let cost = hope_sum(node.kept);
             Some(NearEntry {
                 steps: node.kept.steps,
-                cost: hope_sum(node.kept),
+                cost,
                 place: home as u32,
             })
         } else {
