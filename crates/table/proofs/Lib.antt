@@ -1,0 +1,8 @@
+pub mod OrderLimits
+pub mod OrderKeys
+pub mod OrderAsked
+pub mod OrderHead
+pub mod OrderLaws
+pub mod OrderChecks
+pub mod OrderOne
+pub mod OrderFresh

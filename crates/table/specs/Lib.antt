@@ -1,3 +1,6 @@
 pub mod Seats
 pub mod Table
 pub mod Order
+pub mod Asked
+pub mod Law
+pub mod Fresh
