@@ -98,40 +98,32 @@ impl GridShape {
         match direction {
             Direction::North => {
                 if at.row > 0 {
-                    Some(Position {
-                        row: at.row - 1,
-                        column: at.column,
-                    })
+                    let row = at.row - 1;
+                    Some(Position { row, ..at })
                 } else {
                     None
                 }
             }
             Direction::East => {
                 if at.column + 1 < self.width {
-                    Some(Position {
-                        row: at.row,
-                        column: at.column + 1,
-                    })
+                    let column = at.column + 1;
+                    Some(Position { column, ..at })
                 } else {
                     None
                 }
             }
             Direction::South => {
                 if at.row + 1 < self.height {
-                    Some(Position {
-                        row: at.row + 1,
-                        column: at.column,
-                    })
+                    let row = at.row + 1;
+                    Some(Position { row, ..at })
                 } else {
                     None
                 }
             }
             Direction::West => {
                 if at.column > 0 {
-                    Some(Position {
-                        row: at.row,
-                        column: at.column - 1,
-                    })
+                    let column = at.column - 1;
+                    Some(Position { column, ..at })
                 } else {
                     None
                 }

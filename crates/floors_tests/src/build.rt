@@ -14,7 +14,13 @@ use std::test::*;
 pub const NINE: [u8; 9] = [1, 2, 3, 4, 5, 6, 7, 8, 9];
 
 // The grid of these cells.
-pub fn grid(heap: Global, width: u32, height: u32, cells: &[u8], goal: u32) -> Result<Grid, Fail> {
+pub(crate) fn grid(
+    heap: Global,
+    width: u32,
+    height: u32,
+    cells: &[u8],
+    goal: u32,
+) -> Result<Grid, Fail> {
     match Grid::new(width, height, cells.to_vec(heap)?, goal) {
         Ok(grid) => Ok(grid),
         Err(_) => Err(Fail::new("refused")),
@@ -22,7 +28,7 @@ pub fn grid(heap: Global, width: u32, height: u32, cells: &[u8], goal: u32) -> R
 }
 
 // The grid is refused by that question, and its cells come back.
-pub fn refuses(
+pub(crate) fn refuses(
     heap: Global,
     width: u32,
     height: u32,
@@ -40,12 +46,16 @@ pub fn refuses(
 }
 
 // A usable leg with that target and cost.
-pub fn to(target: u32, cost: u32) -> Option<Leg> {
+pub(crate) fn to(target: u32, cost: u32) -> Option<Leg> {
     Some(Leg { target, cost })
 }
 
 // The first four legs of the place.
-pub fn legs_are<F: Floor>(floor: &F, place: u32, legs: [Option<Leg>; 4]) -> Result<(), Fail> {
+pub(crate) fn legs_are<F: Floor>(
+    floor: &F,
+    place: u32,
+    legs: [Option<Leg>; 4],
+) -> Result<(), Fail> {
     for number in 0..4 {
         check_eq(floor.leg(place, number), legs[number as usize])?;
     }
@@ -53,7 +63,7 @@ pub fn legs_are<F: Floor>(floor: &F, place: u32, legs: [Option<Leg>; 4]) -> Resu
 }
 
 // The low, hope and step estimates of the place.
-pub fn estimates_are<F: GuidedFloor>(
+pub(crate) fn estimates_are<F: GuidedFloor>(
     floor: &F,
     place: u32,
     low: u32,
@@ -74,11 +84,15 @@ fn number(answer: Result<(), ShutFault>) -> u32 {
 }
 
 // Shuts the place: accepted if the number is 0, else refused by that question.
-pub fn shuts<F: Floor>(floor: &mut Shut<F>, place: u32, expected: u32) -> Result<(), Fail> {
+pub(crate) fn shuts<F: Floor>(floor: &mut Shut<F>, place: u32, expected: u32) -> Result<(), Fail> {
     check_eq(number(floor.shut(place)), expected)
 }
 
 // Unshuts the place: accepted if the number is 0, else refused by that question.
-pub fn unshuts<F: Floor>(floor: &mut Shut<F>, place: u32, expected: u32) -> Result<(), Fail> {
+pub(crate) fn unshuts<F: Floor>(
+    floor: &mut Shut<F>,
+    place: u32,
+    expected: u32,
+) -> Result<(), Fail> {
     check_eq(number(floor.unshut(place)), expected)
 }

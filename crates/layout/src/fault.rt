@@ -86,7 +86,7 @@ impl LayoutFault {
 pub impl From<RecordFault> for LayoutFault as LayoutFaultFromRecord {
     ghost converts = { λ fault r. r ≡ record-fault fault };
 
-    fn from(fault: RecordFault) -> LayoutFault {
-        LayoutFault::Record(fault)
+    fn from(record: RecordFault) -> LayoutFault {
+        LayoutFault::Record(record)
     }
 }

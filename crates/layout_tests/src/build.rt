@@ -6,17 +6,17 @@ use std::alloc::Global;
 use std::test::*;
 
 // A place with a first leg and nothing else.
-pub fn plain(first: u16) -> [u8; 16] {
+pub(crate) fn plain(first: u16) -> [u8; 16] {
     encode_place(false, first, 0, 0, 0)
 }
 
 // A place with a first leg and a low estimate.
-pub fn with_low(first: u16, low: u32) -> [u8; 16] {
+pub(crate) fn with_low(first: u16, low: u32) -> [u8; 16] {
     encode_place(false, first, low, 0, 0)
 }
 
 // The record with one byte turned into another.
-pub fn with_byte(record: [u8; 16], at: usize, byte: u8) -> [u8; 16] {
+pub(crate) fn with_byte(record: [u8; 16], at: usize, byte: u8) -> [u8; 16] {
     let mut turned = record;
     if at < 16 {
         turned[at] = byte;
@@ -25,7 +25,7 @@ pub fn with_byte(record: [u8; 16], at: usize, byte: u8) -> [u8; 16] {
 }
 
 // The bytes of the records.
-pub fn bytes(heap: Global, records: &[[u8; 16]]) -> Result<Vec<u8>, AllocError> {
+pub(crate) fn bytes(heap: Global, records: &[[u8; 16]]) -> Result<Vec<u8>, AllocError> {
     let mut layout = Vec::new(heap);
     for record in records {
         layout.extend_from_slice(record)?;
@@ -34,7 +34,7 @@ pub fn bytes(heap: Global, records: &[[u8; 16]]) -> Result<Vec<u8>, AllocError> 
 }
 
 // The layout is refused by that question at that record, and comes back at its length.
-pub fn refused(layout: Vec<u8>, number: u32, record: usize) -> Result<(), Fail> {
+pub(crate) fn refused(layout: Vec<u8>, number: u32, record: usize) -> Result<(), Fail> {
     let length = layout.len();
     match intake(layout) {
         Ok(_) => Err(Fail::new("accepted")),
@@ -47,12 +47,17 @@ pub fn refused(layout: Vec<u8>, number: u32, record: usize) -> Result<(), Fail> 
 }
 
 // The records are refused by that question at that record.
-pub fn refuses(heap: Global, records: &[[u8; 16]], number: u32, record: usize) -> Result<(), Fail> {
+pub(crate) fn refuses(
+    heap: Global,
+    records: &[[u8; 16]],
+    number: u32,
+    record: usize,
+) -> Result<(), Fail> {
     refused(bytes(heap, records)?, number, record)
 }
 
 // The records are accepted.
-pub fn accepts(heap: Global, records: &[[u8; 16]]) -> Result<(), Fail> {
+pub(crate) fn accepts(heap: Global, records: &[[u8; 16]]) -> Result<(), Fail> {
     match intake(bytes(heap, records)?) {
         Ok(_) => Ok(()),
         Err(_) => Err(Fail::new("refused")),

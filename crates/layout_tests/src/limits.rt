@@ -41,5 +41,8 @@ fn too_many(rt: LibcRuntime) -> Result<(), Fail> {
     refused(large(heap, 4097, 0)?, 4, 4096)?;
     refused(large(heap, 4099, 65_536)?, 4, 4096)?;
     refused(large(heap, 4096, 65_536)?, 4, 4096 + 65_535)?;
+    let mut astray = large(heap, 4097, 0)?;
+    astray.extend_from_slice(&encode_leg(9999, 0))?;
+    refused(astray, 4, 4096)?;
     refused(large(heap, 2, 65_538)?, 4, 2 + 65_535)
 }

@@ -154,17 +154,10 @@ fn estimates(rt: LibcRuntime) -> Result<(), Fail> {
 }
 
 #[test]
-fn low_estimates(rt: LibcRuntime) -> Result<(), Fail> {
+fn goals_have_low_zero(rt: LibcRuntime) -> Result<(), Fail> {
     let heap = rt.alloc();
-    refuses(
-        heap,
-        &[
-            encode_place(true, 0, 1, 0, 0),
-            encode_place(true, 0, 1, 0, 0),
-        ],
-        9,
-        0,
-    )?;
+    let high = encode_place(true, 0, 1, 0, 0);
+    refuses(heap, &[high, high], 9, 0)?;
     refuses(
         heap,
         &[
@@ -174,11 +167,19 @@ fn low_estimates(rt: LibcRuntime) -> Result<(), Fail> {
         ],
         9,
         1,
-    )?;
+    )
+}
+
+#[test]
+fn low_falls_by_the_cost(rt: LibcRuntime) -> Result<(), Fail> {
+    let heap = rt.alloc();
+    let five = with_low(0, 5);
+    let nine = with_low(1, 9);
+    let level = encode_leg(1, 0);
     refuses(
         heap,
         &[
-            with_low(0, 5),
+            five,
             plain(3),
             encode_leg(1, 5),
             encode_leg(1, 4),
@@ -187,24 +188,6 @@ fn low_estimates(rt: LibcRuntime) -> Result<(), Fail> {
         9,
         3,
     )?;
-    refuses(
-        heap,
-        &[
-            with_low(0, 5),
-            with_low(1, 9),
-            encode_leg(1, 0),
-            encode_leg(0, 3),
-        ],
-        9,
-        3,
-    )?;
-    accepts(
-        heap,
-        &[
-            with_low(0, 5),
-            with_low(1, 9),
-            encode_leg(1, 0),
-            encode_leg(0, 4),
-        ],
-    )
+    refuses(heap, &[five, nine, level, encode_leg(0, 3)], 9, 3)?;
+    accepts(heap, &[five, nine, level, encode_leg(0, 4)])
 }
