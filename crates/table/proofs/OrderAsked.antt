@@ -12,7 +12,8 @@ use Rattle.std.specs.Options.{isSome}
 use Rattle.std.specs.declared.option.Option.{Option}
 use Rattle.std.specs.declared.option.Option.the-variants.{Some, None}
 use Rattle.queue.specs.declared.entry.CostEntry.{CostEntry}
-use Rattle.roster.proofs.Checking.{every-each, expected-past, expected-read}
+use Rattle.roster.proofs.Checking.{every-each}
+use Rattle.roster.proofs.Wishes.{expected-past, expected-read}
 use Rattle.roster.proofs.Expectations.{none-some, some-same}
 use Rattle.roster.specs.Check.{expected-in}
 use Rattle.roster.specs.Holds.{expected-count}

@@ -7,7 +7,8 @@ use mathlib.Core.Path.{_≡_, sym, subst}
 use lib.ListN.{length}
 use Rattle.std.proofs.shelf.Tests.{and-parts, and-from, cases-lt}
 use Rattle.queue.specs.Keys.{cost-at-most, near-at-most}
-use Rattle.roster.proofs.Checking.{every-each, each-every, expected-past, roster-holds, holds-roster}
+use Rattle.roster.proofs.Checking.{every-each, each-every, roster-holds, holds-roster}
+use Rattle.roster.proofs.Wishes.{expected-past}
 use Rattle.roster.specs.Check.{expected-in}
 use Rattle.roster.specs.Holds.{Holds}
 use Rattle.search_model.specs.declared.records.Record.{Record}
