@@ -55,7 +55,7 @@ module _ {R E : Type 0} (le : E → E → Bool) (home : E → ℕ) (get : R → 
   }
 
 -- an entry of the near queue, by its record
-abbrev near-of : Search → ℕ → Record → ℕ → Option NearEntry
+abbrev pub near-of : Search → ℕ → Record → ℕ → Option NearEntry
 near-of s least r h = when (is-near s least r) (record { steps = rank s r; cost = f-hat r; place = h })
 
 module _ (t : List Node) (start : ℕ) (r : Record) (here : at (records t) start ≡ r) (opened : r .mark ≡ 1) (other : (h : ℕ) → h ≢ start → at (records t) h ≡ blank) where
