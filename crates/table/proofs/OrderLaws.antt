@@ -10,7 +10,6 @@ use Rattle.queue.specs.Keys.{cost-at-most, near-at-most}
 use Rattle.roster.proofs.Checking.{every-each, each-every, expected-past, roster-holds, holds-roster}
 use Rattle.roster.specs.Check.{expected-in}
 use Rattle.roster.specs.Holds.{Holds}
-use Rattle.search_model.specs.declared.records.Record.{Record}
 use Rattle.search_model.specs.declared.search.Search.{Search}
 use Rattle.search_model.specs.Fields.{RecordLimits}
 use Rattle.search_model.specs.Records.{at}

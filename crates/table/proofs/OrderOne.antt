@@ -1,6 +1,6 @@
 -- A queue that holds one entry, and the expectations of a table with one open place.
 use Prim.Native.Nat.{ℕ, _*_, _<_, _≤_}
-use mathlib.Core.Bool.{Bool, true, false, cond}
+use mathlib.Core.Bool.{Bool}
 use mathlib.Core.List.{List, map}
 use mathlib.Core.Logic.{_≢_, inr, ⊎-elim}
 use mathlib.Core.Path.{_≡_, refl, sym, ap, subst, _∙_}
@@ -19,7 +19,7 @@ use Rattle.search_model.specs.declared.records.Record.{Record}
 use Rattle.search_model.specs.declared.search.Search.{Search}
 use Rattle.search_model.specs.Choice.{is-near, rank}
 use Rattle.search_model.specs.Fields.{RecordLimits}
-use Rattle.search_model.specs.Records.{at, blank, is-open, f-hat}
+use Rattle.search_model.specs.Records.{at, blank, f-hat}
 use Rattle.queue.specs.declared.entry.NearEntry.{NearEntry}
 use Rattle.table.specs.declared.node.Node.{Node}
 use Rattle.table.specs.Asked.{when}

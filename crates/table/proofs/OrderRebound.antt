@@ -1,13 +1,12 @@
 -- The near queue, filled anew place by place.
 use Prim.Native.Nat.{ℕ, _+_, _<_, _≤_}
-use mathlib.Core.Bool.{Bool, true, false, cond}
-use mathlib.Core.List.{List, map}
+use mathlib.Core.Bool.{true, false}
+use mathlib.Core.List.{List}
 use mathlib.Core.Logic.{_≢_, ⊎-elim}
 use mathlib.Core.Path.{_≡_, refl, sym, ap, subst, fun-ext, _∙_}
 use native.Mathlib.Omega.{arith}
 use lib.Dec.{ltb}
 use lib.ListN.{length, getD}
-use Rattle.std.proofs.shelf.Lists.{length-map}
 use Rattle.std.proofs.shelf.Tests.{cases-eq, cases-lt, cond-true, cond-false, lt-ltb, le-ltb}
 use Rattle.std.specs.declared.option.Option.{Option}
 use Rattle.std.specs.declared.option.Option.the-variants.{Some, None}
@@ -26,7 +25,7 @@ use Rattle.roster.specs.Check.{expected-in}
 use Rattle.roster.specs.Holds.{Holds, put}
 use Rattle.search_model.specs.declared.records.Record.{Record}
 use Rattle.search_model.specs.declared.search.Search.{Search}
-use Rattle.search_model.specs.Choice.{is-near, rank}
+use Rattle.search_model.specs.Choice.{is-near}
 use Rattle.search_model.specs.Fields.{RecordLimits}
 use Rattle.search_model.specs.Records.{at, blank, f, f-hat}
 use Rattle.table.specs.declared.node.Node.{Node}
@@ -35,7 +34,7 @@ use Rattle.table.specs.Order.{cost-place, near-place-of, record-right, InOrder
 use Rattle.table.specs.Rebound.{below, NearBelow, NearOnly}
 use Rattle.table.specs.Seats.{low-entry, low-note, hope-entry, hope-note, near-entry, with-near-entry, near-note, with-near-note}
 use Rattle.table.specs.Table.{records, low-wanted, hope-wanted, near-wanted, near-entry-of, least-hope}
-use Rattle.table.proofs.OrderAsked.{records-at, expected-at, expected-by, open-of}
+use Rattle.table.proofs.OrderAsked.{kept-of, records-at, expected-at, expected-by, open-of}
 use Rattle.table.proofs.OrderKeys.{near-ordered}
 use Rattle.table.proofs.OrderLimits.{limits-right}
 use Rattle.table.proofs.OrderOne.{near-of}
@@ -127,7 +126,7 @@ module _ (s : Search) (least : ℕ) where
 -- a call of the near queue changes nothing else
 pub near-only : (t t′ : List Node) (k : ℕ) → IndexedFrame near-place-of near-entry with-near-entry near-note with-near-note k t t′ → NearOnly t t′
 near-only t t′ k F = record {
-  kept = part-kept-indexed (λ (n : Node). n .kept) near-place-of near-entry with-near-entry near-note with-near-note k t t′ F (λ r e. refl) (λ r m. refl);
+  kept = part-kept-indexed kept-of near-place-of near-entry with-near-entry near-note with-near-note k t t′ F (λ r e. refl) (λ r m. refl);
   low-entries = part-kept-indexed low-entry near-place-of near-entry with-near-entry near-note with-near-note k t t′ F (λ r e. refl) (λ r m. refl);
   low-notes = part-kept-indexed low-note near-place-of near-entry with-near-entry near-note with-near-note k t t′ F (λ r e. refl) (λ r m. refl);
   hope-entries = part-kept-indexed hope-entry near-place-of near-entry with-near-entry near-note with-near-note k t t′ F (λ r e. refl) (λ r m. refl);
