@@ -6,3 +6,4 @@ pub mod OrderLaws
 pub mod OrderChecks
 pub mod OrderOne
 pub mod OrderFresh
+pub mod OrderRebound

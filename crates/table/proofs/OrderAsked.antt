@@ -25,7 +25,8 @@ use Rattle.table.specs.Fresh.{blank-node}
 use Rattle.table.specs.Order.{record-right}
 use Rattle.table.specs.Table.{records, open-entry, low-wanted, hope-wanted}
 
-abbrev kept-of : Node → Record
+-- the record of a node
+abbrev pub kept-of : Node → Record
 kept-of n = n .kept
 
 -- the record of a place is its node's

@@ -1,21 +1,24 @@
 -- The answers of the check of a table.
-use Prim.Native.Nat.{ℕ}
+use Prim.Native.Nat.{ℕ, _≤_}
 use mathlib.Core.Bool.{Bool, true, false, _&&_}
 use mathlib.Core.List.{List}
 use mathlib.Core.Logic.{⊎-elim}
-use mathlib.Core.Path.{_≡_, refl, sym, ap, subst, _∙_}
+use mathlib.Core.Path.{_≡_, sym, ap, subst, _∙_}
+use lib.ListN.{length}
 use Rattle.std.proofs.shelf.Tests.{both-ways, cases-bool, cond-true, cond-false}
 use Rattle.std.specs.Options.{isSome}
 use Rattle.std.specs.declared.option.Option.{Option}
 use Rattle.std.specs.declared.option.Option.the-variants.{Some, None}
 use Rattle.roster.proofs.Checking.{every-each, each-every}
-use Rattle.roster.specs.Check.{IsFailing, every}
+use Rattle.roster.specs.Check.{IsFailing, every, expected-in, roster-right}
+use Rattle.roster.specs.Holds.{expected-count}
 use Rattle.search_model.specs.declared.search.Search.{Search}
 use Rattle.table.specs.declared.node.Node.{Node}
 use Rattle.table.specs.declared.order.Queued.{Queued}
-use Rattle.table.specs.Asked.{hope-right, open-count, counted, when, HopeHeld, DecidedOrder}
+use Rattle.table.specs.Asked.{asked, records-right, hope-right, open-count, counted, when, HopeHeld, DecidedOrder}
 use Rattle.table.specs.Fresh.{blank-node}
 use Rattle.table.specs.Order.{in-order}
+use Rattle.table.proofs.OrderAsked.{asked-same}
 use Rattle.table.proofs.OrderLaws.{hope-holds, order-holds, order-tested}
 
 -- a number that fails, or none
@@ -33,6 +36,14 @@ module _ {A : Type 0} (a b : Bool) (x : A) where
   -- and where it fails there is no answer
   pub when-first-fails : a ≡ false → None ≡ when (a && b) x
   when-first-fails p = ap (λ (c : Bool). when (c && b) x) (sym p)
+
+-- what the roster's check answers of the nodes that are askable, it answers of all
+pub asked-answer : {E : Type 0} (le : E → E → Bool) (home : E → ℕ) (get : Node → E) (note : Node → ℕ) (wanted : Node → ℕ → Option E) (t : List Node) (r : Option ℕ)
+    → length t ≤ 4294967296 → records-right t ≡ true
+    → r ≡ when (roster-right le home get note (expected-in (asked wanted) t) t) (expected-count (expected-in (asked wanted) t) (length t))
+    → r ≡ when (roster-right le home get note (expected-in wanted t) t) (expected-count (expected-in wanted t) (length t))
+asked-answer {E} le home get note wanted t r few right =
+    subst (λ (x : ℕ → Option E). r ≡ when (roster-right le home get note x t) (expected-count x (length t))) (asked-same wanted t right few)
 
 -- an answer of the check of the hope queue
 pub hope-held : (t : List Node) (o : Option ℕ) → o ≡ when (hope-right t) (open-count t) → HopeHeld t o

@@ -20,10 +20,8 @@ use Rattle.table.specs.Fresh.{blank-node, seated, with-kept, seated-table, set
 use Rattle.table.specs.Order.{cost-place, near-place-of, InOrder}
 use Rattle.table.specs.Seats.{low-entry, low-note, hope-entry, hope-note, near-entry, near-note}
 use Rattle.table.specs.Table.{records}
+use Rattle.table.proofs.OrderAsked.{kept-of}
 use Rattle.table.proofs.OrderOne.{holds-one, one-limits, open-here, open-other, near-here, near-other}
-
-abbrev kept-of : Node → Record
-kept-of n = n .kept
 
 map-replicate : {A B : Type 0} (g : A → B) (n : ℕ) (x : A) → map g (replicate n x) ≡ replicate n (g x)
 map-replicate g zero x = refl

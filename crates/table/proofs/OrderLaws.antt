@@ -11,7 +11,6 @@ use Rattle.roster.proofs.Checking.{every-each, each-every, roster-holds, holds-
 use Rattle.roster.proofs.Wishes.{expected-past}
 use Rattle.roster.specs.Check.{expected-in}
 use Rattle.roster.specs.Holds.{Holds}
-use Rattle.search_model.specs.declared.records.Record.{Record}
 use Rattle.search_model.specs.declared.search.Search.{Search}
 use Rattle.search_model.specs.Fields.{RecordLimits}
 use Rattle.search_model.specs.Records.{at}

@@ -1,6 +1,6 @@
 -- A queue that holds one entry, and the expectations of a table with one open place.
 use Prim.Native.Nat.{ℕ, _*_, _<_, _≤_}
-use mathlib.Core.Bool.{Bool, true, false, cond}
+use mathlib.Core.Bool.{Bool}
 use mathlib.Core.List.{List, map}
 use mathlib.Core.Logic.{_≢_, inr, ⊎-elim}
 use mathlib.Core.Path.{_≡_, refl, sym, ap, subst, _∙_}
@@ -19,7 +19,7 @@ use Rattle.search_model.specs.declared.records.Record.{Record}
 use Rattle.search_model.specs.declared.search.Search.{Search}
 use Rattle.search_model.specs.Choice.{is-near, rank}
 use Rattle.search_model.specs.Fields.{RecordLimits}
-use Rattle.search_model.specs.Records.{at, blank, is-open, f-hat}
+use Rattle.search_model.specs.Records.{at, blank, f-hat}
 use Rattle.queue.specs.declared.entry.NearEntry.{NearEntry}
 use Rattle.table.specs.declared.node.Node.{Node}
 use Rattle.table.specs.Asked.{when}
@@ -55,7 +55,7 @@ module _ {R E : Type 0} (le : E → E → Bool) (home : E → ℕ) (get : R → 
   }
 
 -- an entry of the near queue, by its record
-abbrev near-of : Search → ℕ → Record → ℕ → Option NearEntry
+abbrev pub near-of : Search → ℕ → Record → ℕ → Option NearEntry
 near-of s least r h = when (is-near s least r) (record { steps = rank s r; cost = f-hat r; place = h })
 
 module _ (t : List Node) (start : ℕ) (r : Record) (here : at (records t) start ≡ r) (opened : r .mark ≡ 1) (other : (h : ℕ) → h ≢ start → at (records t) h ≡ blank) where

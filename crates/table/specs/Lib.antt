@@ -4,3 +4,4 @@ pub mod Order
 pub mod Asked
 pub mod Law
 pub mod Fresh
+pub mod Rebound

@@ -2,5 +2,6 @@
 pub mod fresh;
 pub mod node;
 pub mod order;
+pub mod rebound;
 pub mod seats;
 pub mod wanted;

@@ -72,7 +72,7 @@ fn is_within(bound: Bound, mark: u32, cost: u32) -> bool
 }
 
 // Whether a place is in the near set for the least f̂.
-fn is_near(state: Search, least: u32, record: Record) -> bool
+pub fn is_near(state: Search, least: u32, record: Record) -> bool
     requires { ⌜ record-right «record» ≡ true ⌝ }
     ensures { λ r. ⌜ r ≡ is-near state least «record» ⌝ }
 {

@@ -1,6 +1,5 @@
 use Prim.Native.Nat.{ℕ}
 use mathlib.Core.Path.{_≡_, subst}
-use Rattle.std.specs.declared.option.Option.{Option}
 use Rattle.std.specs.declared.option.Option.the-variants.{Some, None}
 use Rattle.table.specs.Asked.{near-right, near-count, queued, when}
 use Rattle.table.proofs.OrderAsked.{when-some-by, when-none-by}

@@ -1,5 +1,4 @@
 use mathlib.Core.Path.{sym}
-use Rattle.std.specs.declared.option.Option.{Option}
 use Rattle.std.specs.declared.option.Option.the-variants.{Some, None}
 use Rattle.queue.specs.Keys.{cost-at-most}
 use Rattle.roster.proofs.Holding.{holds-head}
