@@ -1,5 +1,4 @@
 pub mod OrderLimits
-pub mod OrderKeys
 pub mod OrderAsked
 pub mod OrderHead
 pub mod OrderLaws

@@ -21,7 +21,7 @@ use Rattle.table.specs.Order.{cost-place, near-place-of, in-order, InOrder}
 use Rattle.table.specs.Seats.{low-entry, low-note, hope-entry, hope-note, near-entry, near-note}
 use Rattle.table.specs.Table.{records, low-wanted, hope-wanted, near-wanted, least-hope}
 use Rattle.table.proofs.OrderAsked.{counts-same, records-past}
-use Rattle.table.proofs.OrderKeys.{cost-ordered, near-ordered}
+use Rattle.roster.proofs.Orders.{cost-ordered, near-ordered}
 use Rattle.table.proofs.OrderLimits.{right-limits, limits-right, blank-limits}
 
 pub right-all : (t : List Node) → records-right t ≡ true → (p : ℕ) → RecordLimits (at (records t) p)

@@ -16,7 +16,7 @@ use Rattle.queue.specs.Entries.{entries}
 use Rattle.queue.specs.Keys.{cost-at-most, near-at-most}
 use Rattle.queue.specs.Notes.{Absent, IndexedFrame, NotesRight}
 use Rattle.queue.specs.declared.entry.NearEntry.{NearEntry}
-use Rattle.roster.proofs.Checking.{expected-past}
+use Rattle.roster.proofs.Wishes.{expected-past}
 use Rattle.roster.proofs.Expectations.{put-cases}
 use Rattle.roster.proofs.Counting.{holds-room}
 use Rattle.roster.proofs.Holding.{holds-none, holds-same, holds-absent, holds-inserted}
@@ -35,7 +35,7 @@ use Rattle.table.specs.Rebound.{below, NearBelow, NearOnly}
 use Rattle.table.specs.Seats.{low-entry, low-note, hope-entry, hope-note, near-entry, with-near-entry, near-note, with-near-note}
 use Rattle.table.specs.Table.{records, low-wanted, hope-wanted, near-wanted, near-entry-of, least-hope}
 use Rattle.table.proofs.OrderAsked.{kept-of, records-at, expected-at, expected-by, open-of}
-use Rattle.table.proofs.OrderKeys.{near-ordered}
+use Rattle.roster.proofs.Orders.{near-ordered}
 use Rattle.table.proofs.OrderLimits.{limits-right}
 use Rattle.table.proofs.OrderOne.{near-of}
 
