@@ -3,3 +3,5 @@ pub mod Holding
 pub mod Keeping
 pub mod Counting
 pub mod Checking
+pub mod Updating
+pub mod Changing
