@@ -1,0 +1,2 @@
+pub mod Requeue
+pub mod Putting

@@ -1,3 +1,4 @@
 pub mod Seats
 pub mod Table
 pub mod Order
+pub mod Frontier

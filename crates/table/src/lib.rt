@@ -1,3 +1,4 @@
 // The table of a search: one node for each place, with the place's record and a seat in each queue.
+pub mod frontier;
 pub mod node;
 pub mod seats;
