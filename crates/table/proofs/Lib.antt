@@ -1,2 +1,4 @@
 pub mod Requeue
 pub mod Putting
+pub mod Reading
+pub mod Sides

@@ -2,3 +2,4 @@ pub mod Seats
 pub mod Table
 pub mod Order
 pub mod Frontier
+pub mod Moves
