@@ -2,3 +2,4 @@ pub mod Requeue
 pub mod Putting
 pub mod Reading
 pub mod Sides
+pub mod Firsts

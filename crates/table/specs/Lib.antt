@@ -3,3 +3,4 @@ pub mod Table
 pub mod Order
 pub mod Frontier
 pub mod Moves
+pub mod Choose

@@ -111,7 +111,12 @@ pub fn raise(frontier: Frontier, search: Search, table: &mut [Node], cover: u32)
     while let Some(place) = far_within(front, search, table, cover) {
         front = move_place(front, search, table, place, 1);
     }
-    Frontier { opened: front.opened, nears: front.nears, fars: front.fars, cover: cover }
+    Frontier {
+        opened: front.opened,
+        nears: front.nears,
+        fars: front.fars,
+        cover: cover,
+    }
 }
 
 // The first place on the near side if it is beyond the cover.
