@@ -17,7 +17,7 @@ use Rattle.queue.proofs.Rules.{rule-kept}
 use Rattle.roster.specs.Holds.{Holds}
 
 -- a part that every record keeps, record by record
-kept-part : {R X : Type 0} (part : R → X) (xs ys : List R) → length ys ≡ length xs → map part ys ≡ map part xs → (r : R) (a : ℕ) → part (getD ys a r) ≡ part (getD xs a r)
+pub kept-part : {R X : Type 0} (part : R → X) (xs ys : List R) → length ys ≡ length xs → map part ys ≡ map part xs → (r : R) (a : ℕ) → part (getD ys a r) ≡ part (getD xs a r)
 kept-part part xs ys long same r a = ⊎-elim
     (λ l.
     let l′ : a < length ys = omega arith in

@@ -5,3 +5,5 @@ pub mod Keeping
 pub mod Counting
 pub mod Wishes
 pub mod Checking
+pub mod Updating
+pub mod Changing

@@ -1,2 +1,3 @@
 pub mod Holds
 pub mod Check
+pub mod Update

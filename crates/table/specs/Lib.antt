@@ -5,3 +5,6 @@ pub mod Asked
 pub mod Law
 pub mod Fresh
 pub mod Rebound
+pub mod Frontier
+pub mod Moves
+pub mod Choose

@@ -1,5 +1,8 @@
 // The table of a search: one node for each place, with the place's record and a seat in each queue.
 pub mod fresh;
+pub mod choose;
+pub mod frontier;
+pub mod moves;
 pub mod node;
 pub mod order;
 pub mod rebound;
