@@ -28,5 +28,7 @@ pub record GridMade (s : GridShape) (cells : Vec ℕ Global) (r : Result Grid Gr
   -- an accepted grid means the floor of these cells, guesses included
   pub means : made r (λ g. grid-meaning g ≡ grid-floor (vec-items cells) s)
   pub guesses : made r (λ g. guesses-of g ≡ grid-guesses (vec-items cells) s)
+  -- and keeps the cells
+  pub keeps : made r (λ g. g .cells ≡ cells)
   -- a refusal hands the cells back as they were
   pub back : refused r (λ x. x .cells ≡ cells)

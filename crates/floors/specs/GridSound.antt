@@ -16,7 +16,7 @@ use Rattle.floors.specs.declared.grid_shape.Direction.{Direction}
 use Rattle.floors.specs.declared.grid_shape.Direction.the-variants.{North, East, South, West}
 use Rattle.floors.specs.declared.grid_shape.GridShape.{GridShape}
 use Rattle.floors.specs.declared.grid_shape.Position.{Position}
-use Rattle.floors.specs.Bytes.{least-below, least-within, greatest-within}
+use Rattle.floors.specs.Bytes.{least-is, least-within, greatest-within}
 use Rattle.floors.specs.Consistent.{Consistent, consistent-admissible}
 use Rattle.floors.specs.Grid.{area, place-at, position, direction, neighbour, leg-into, leg-count, leg-of, least-nonzero, greatest, apart, distance, to-goal, low-of, hope-of, steps-of, grid-floor, grid-guesses}
 use Rattle.floors.specs.Guided.{Limited}
@@ -188,7 +188,7 @@ module _ (cells : List ℕ) (s : GridShape) (formed : Formed cells s) where
       let inside : l .target < area s = subst (λ q. q < area s) (x .target) (place-on s (x .at) (x .near .0)) in
       let there : to-goal s (l .target) ≡ distance (x .at) (position s (s .goal)) =
       ap (λ q. distance q (position s (s .goal))) (ap (position s) (sym (x .target)) ∙ position-back s (x .at) (x .near .0)) in
-      let least : m ≤ l .cost = subst (λ c. m ≤ c) (x .cost) (least-below cells (l .target) (subst (λ c. 0 < c) (sym (x .cost)) (x .some))) in
+      let least : m ≤ l .cost = subst (λ c. m ≤ c) (x .cost) (least-is cells .below (l .target) (subst (λ c. 0 < c) (sym (x .cost)) (x .some))) in
       let step : to-goal s p ≤ 1 + to-goal s (l .target) = subst (λ d. to-goal s p ≤ 1 + d) (sym there) (x .near .1) in
       let more : m * to-goal s p ≤ m * (1 + to-goal s (l .target)) = mul-le-mul-left m step in
       rw (low-is p (x .here), low-is (l .target) inside)

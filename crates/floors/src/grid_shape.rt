@@ -44,6 +44,12 @@ impl Direction {
 }
 
 impl Position {
+    pub fn at(row: u32, column: u32) -> Position
+        ensures { λ r. ⌜ r ≡ record { row = row; column = column } ⌝ }
+    {
+        Position { row, column }
+    }
+
     // The sum of the row and column distances.
     pub fn distance(self, other: Position) -> u32
         requires { ⌜ self .row < 64 ⌝ ∗ ⌜ self .column < 64 ⌝ ∗ ⌜ other .row < 64 ⌝ ∗ ⌜ other .column < 64 ⌝ }
@@ -98,32 +104,28 @@ impl GridShape {
         match direction {
             Direction::North => {
                 if at.row > 0 {
-                    let row = at.row - 1;
-                    Some(Position { row, ..at })
+                    Some(Position::at(at.row - 1, at.column))
                 } else {
                     None
                 }
             }
             Direction::East => {
                 if at.column + 1 < self.width {
-                    let column = at.column + 1;
-                    Some(Position { column, ..at })
+                    Some(Position::at(at.row, at.column + 1))
                 } else {
                     None
                 }
             }
             Direction::South => {
                 if at.row + 1 < self.height {
-                    let row = at.row + 1;
-                    Some(Position { row, ..at })
+                    Some(Position::at(at.row + 1, at.column))
                 } else {
                     None
                 }
             }
             Direction::West => {
                 if at.column > 0 {
-                    let column = at.column - 1;
-                    Some(Position { column, ..at })
+                    Some(Position::at(at.row, at.column - 1))
                 } else {
                     None
                 }
