@@ -15,8 +15,8 @@ use Rattle.queue.specs.Keys.{cost-at-most, near-at-most}
 use Rattle.queue.specs.declared.entry.CostEntry.{CostEntry}
 use Rattle.queue.specs.declared.entry.NearEntry.{NearEntry}
 use Rattle.roster.specs.Check.{expected-in}
-use Rattle.roster.proofs.Changing.{expected-at, if-some}
-use Rattle.roster.proofs.Checking.{expected-past}
+use Rattle.roster.proofs.Changing.{if-some}
+use Rattle.roster.proofs.Wishes.{expected-at, expected-past}
 use Rattle.roster.proofs.Expectations.{none-some}
 use Rattle.search_model.specs.Records.{at}
 use Rattle.search_model.proofs.Heads.{Before}

@@ -16,7 +16,7 @@ use Rattle.roster.specs.Check.{expected-in}
 use Rattle.roster.specs.Holds.{Holds, put}
 use Rattle.roster.specs.Update.{Updatable}
 use Rattle.roster.proofs.Changing.{expected-set, expected-kept, some-if, if-some}
-use Rattle.roster.proofs.Checking.{expected-read}
+use Rattle.roster.proofs.Wishes.{expected-read}
 use Rattle.roster.proofs.Holding.{holds-same}
 use Rattle.roster.proofs.Keeping.{kept-part, holds-set}
 use Rattle.roster.proofs.Updating.{Updated}
