@@ -8,12 +8,11 @@ use native.Mathlib.Omega.{arith}
 use lib.ListN.{length, getD, set, length-set}
 use lib.Seq.{getD-set-same, getD-set-other}
 use Rattle.std.proofs.shelf.Lists.{getD-default}
-use Rattle.std.proofs.shelf.Tests.{cases-lt, both-ways}
+use Rattle.std.proofs.shelf.Tests.{cases-lt}
 use Rattle.std.specs.Finite.{nth}
 use Rattle.std.specs.Options.{isSome}
 use Rattle.std.specs.declared.option.Option.{Option}
 use Rattle.std.specs.declared.option.Option.the-variants.{Some, None}
-use Rattle.queue.proofs.Parts.{some-element}
 use Rattle.roster.specs.Check.{expected-in}
 use Rattle.roster.specs.Holds.{put}
 use Rattle.roster.proofs.Checking.{expected-past, expected-read}
@@ -65,7 +64,3 @@ module _ {E : Type 0} where
   pub if-some : (b : Bool) (x e : E) → cond b (Some x) None ≡ Some e → (b ≡ true) × (x ≡ e)
   if-some true x e is = (refl, cc)
   if-some false x e is = let z : _≡_ {A = ℕ} 0 1 = cc in absurd (omega arith)
-
-  pub if-none : (b : Bool) (x : E) → cond b (Some x) None ≡ None → b ≡ false
-  if-none true x is = let z : _≡_ {A = ℕ} 0 1 = cc in absurd (omega arith)
-  if-none false x is = refl

@@ -3,3 +3,4 @@ pub mod Putting
 pub mod Reading
 pub mod Sides
 pub mod Firsts
+pub mod Trimming

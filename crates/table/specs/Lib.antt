@@ -4,3 +4,4 @@ pub mod Order
 pub mod Frontier
 pub mod Moves
 pub mod Choose
+pub mod Endings

@@ -48,7 +48,7 @@ fn open_now(kept: Record) -> bool
 }
 
 // Whether the node is of an open place on the near side.
-fn on_near_side(node: Node) -> bool
+pub(crate) fn on_near_side(node: Node) -> bool
     ensures { λ r. ⌜ r ≡ near-side node ⌝ }
 {
     open_now(node.kept) && node.side == 1

@@ -1,5 +1,6 @@
 // The table of a search: one node for each place, with the place's record and a seat in each queue.
 pub mod choose;
+pub mod ending;
 pub mod frontier;
 pub mod moves;
 pub mod node;

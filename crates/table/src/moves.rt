@@ -71,7 +71,7 @@ pub fn close(frontier: Frontier, search: Search, table: &mut [Node], place: u32)
 }
 
 // Moves a place to a side.
-fn move_place(
+pub(crate) fn move_place(
     frontier: Frontier,
     search: Search,
     table: &mut [Node],
