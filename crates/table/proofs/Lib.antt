@@ -4,3 +4,4 @@ pub mod Reading
 pub mod Sides
 pub mod Firsts
 pub mod Trimming
+pub mod Seated

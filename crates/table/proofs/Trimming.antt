@@ -111,7 +111,7 @@ bool-same true b to from = sym (to refl)
 bool-same false true to from = from refl
 bool-same false false to from = refl
 
-expected-agree : {E : Type 0} (w w′ : Node → ℕ → Option E) (t : List Node) → ((p : ℕ) → p < length t → w (node-at t p) p ≡ w′ (node-at t p) p) → (h : ℕ) → expected-in w t h ≡ expected-in w′ t h
+pub expected-agree : {E : Type 0} (w w′ : Node → ℕ → Option E) (t : List Node) → ((p : ℕ) → p < length t → w (node-at t p) p ≡ w′ (node-at t p) p) → (h : ℕ) → expected-in w t h ≡ expected-in w′ t h
 expected-agree w w′ t same h = ⊎-elim
     (λ l. expected-at w t h no-node l ∙ same h l ∙ sym (expected-at w′ t h no-node l))
     (λ past. expected-past w t h past ∙ sym (expected-past w′ t h past))

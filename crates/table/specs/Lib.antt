@@ -5,3 +5,4 @@ pub mod Frontier
 pub mod Moves
 pub mod Choose
 pub mod Endings
+pub mod Starting

@@ -7,7 +7,12 @@ ghost use Rattle.search_model.specs.Choice.{within};
 ghost use Rattle.search_model.specs.Fields.{RecordLimits};
 ghost use Rattle.table.specs.Endings.{Trimmable, Trimmed, Ended, TrimmedAt, TrimmingAt};
 ghost use Rattle.table.specs.Frontier.{Prepared};
-ghost use Rattle.table.specs.Table.{records, least-hope, near-side};
+ghost use Rattle.table.specs.Table.{records, hope-wanted, least-hope, near-side};
+ghost use Rattle.queue.specs.Keys.{cost-at-most};
+ghost use Rattle.roster.specs.Check.{expected-in};
+ghost use Rattle.roster.specs.Holds.{Holds};
+ghost use Rattle.table.specs.Order.{cost-place};
+ghost use Rattle.table.specs.Seats.{hope-entry, hope-note};
 use crate::frontier::Frontier;
 use crate::frontier::on_near_side;
 use crate::moves::is_within;
@@ -24,11 +29,11 @@ use queue::slot::Slot;
 use search_model::search::Search;
 
 // The least f̂ of an open place; 0 where nothing is open.
-fn least_cost(search: Search, frontier: Frontier, table: &[Node]) -> u32
-    requires { ⌜ Prepared search frontier (now table) ⌝ }
+pub(crate) fn least_cost(opened: usize, table: &[Node]) -> u32
+    requires { ⌜ Holds cost-at-most cost-place hope-entry hope-note (expected-in hope-wanted (now table)) opened (now table) ⌝ }
     ensures { λ r. ⌜ r ≡ least-hope (records (now (table .entry))) ⌝ }
 {
-    match heap::head::<Hope, Node>(table, frontier.opened) {
+    match heap::head::<Hope, Node>(table, opened) {
         Some(hope) => hope.cost,
         None => 0,
     }
@@ -77,7 +82,7 @@ pub fn finish(frontier: Frontier, search: Search, table: &mut [Node]) -> Frontie
     requires { ⌜ Prepared search frontier (now table) ⌝ }
     ensures { λ r. ⌜ Ended search (now (table .entry)) r (now (table .exit)) ⌝ }
 {
-    let least = least_cost(search, frontier, table);
+    let least = least_cost(frontier.opened, table);
     let raised = raise(frontier, search, table, least);
     trim(raised, search, table, least)
 }

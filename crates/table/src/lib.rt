@@ -5,3 +5,4 @@ pub mod frontier;
 pub mod moves;
 pub mod node;
 pub mod seats;
+pub mod start;

@@ -8,7 +8,7 @@ use Rattle.table.proofs.ending.least_cost.Needs as need
 
 pub returns-in-Some : need.returns-in-Some
 returns-in-Some c =
-    least-some (c .args .table .now) (c .in-Some .hope) (holds-head cost-at-most cost-place hope-entry hope-note (c .pre .ready .hope) (Some (c .in-Some .hope)) (c .in-Some .ensures tt))
+    least-some (c .args .table .now) (c .in-Some .hope) (holds-head cost-at-most cost-place hope-entry hope-note (c .pre) (Some (c .in-Some .hope)) (c .in-Some .ensures tt))
 
 pub returns-in-None : need.returns-in-None
-returns-in-None c = least-none (c .args .table .now) (holds-head cost-at-most cost-place hope-entry hope-note (c .pre .ready .hope) None (c .in-None .ensures tt))
+returns-in-None c = least-none (c .args .table .now) (holds-head cost-at-most cost-place hope-entry hope-note (c .pre) None (c .in-None .ensures tt))
