@@ -39,7 +39,3 @@ module _ {E : Type 0} where
   pub if-some : (b : Bool) (x e : E) → cond b (Some x) None ≡ Some e → (b ≡ true) × (x ≡ e)
   if-some true x e is = (refl, cc)
   if-some false x e is = let z : _≡_ {A = ℕ} 0 1 = cc in absurd (omega arith)
-
-  pub if-none : (b : Bool) (x : E) → cond b (Some x) None ≡ None → b ≡ false
-  if-none true x is = let z : _≡_ {A = ℕ} 0 1 = cc in absurd (omega arith)
-  if-none false x is = refl

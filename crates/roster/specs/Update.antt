@@ -7,7 +7,7 @@ use lib.ListN.{length, getD}
 use Rattle.roster.specs.Holds.{Holds}
 use Rattle.std.specs.Options.{isSome}
 use Rattle.std.specs.declared.option.Option.{Option}
-use Rattle.std.specs.declared.option.Option.the-variants.{Some, None}
+use Rattle.std.specs.declared.option.Option.the-variants.{Some}
 
 -- The queue holds some expectations, in which the home has an entry or not, as `was` says; what is wanted names the home.
 pub record Updatable {R E : Type 0} (at-most : E → E → Bool) (home-of : E → ℕ) (entry-of : R → E) (note-of : R → ℕ) (note-limit n h : ℕ) (was : Bool) (wanted : Option E) (slots : List R) : Type 0 where

@@ -1,6 +1,6 @@
 -- The heads of the queues are low, hope and near.
 use Prim.Native.Nat.{ℕ, _*_, _<_, _≤_}
-use mathlib.Core.Bool.{Bool, true, false, _&&_, _||_, not}
+use mathlib.Core.Bool.{Bool, true, false, not}
 use mathlib.Core.List.{List}
 use mathlib.Core.Logic.{_⊎_, inl, inr, ⊎-elim}
 use mathlib.Core.Path.{_≡_, refl, sym, ap, subst, _∙_}
@@ -32,7 +32,7 @@ use Rattle.table.specs.Choose.{Choosing, NearReady, StillReady}
 use Rattle.table.specs.Frontier.{Prepared}
 use Rattle.table.specs.Moves.{HeadWithin, EntryWithin, Dropped}
 use Rattle.table.specs.Order.{cost-place, near-place-of}
-use Rattle.table.specs.Table.{records, open-entry, low-wanted, hope-wanted, near-side-wanted, near-side, far-side, near-entry-of}
+use Rattle.table.specs.Table.{records, open-entry, low-wanted, hope-wanted, near-side-wanted, near-side, near-entry-of}
 use Rattle.table.proofs.Putting.{node-at, no-node}
 use Rattle.table.proofs.Reading.{kept-at, wants, wanted-here, cost-before}
 

@@ -11,3 +11,5 @@ pub mod Putting
 pub mod Reading
 pub mod Sides
 pub mod Firsts
+pub mod Trimming
+pub mod Seated

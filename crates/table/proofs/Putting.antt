@@ -1,5 +1,5 @@
 -- The four updates after a place is given another record and side.
-use Prim.Native.Nat.{ℕ, _+_, _-_, _<_, _≤_}
+use Prim.Native.Nat.{ℕ, _-_}
 use mathlib.Core.Bool.{Bool, true, false, cond}
 use mathlib.Core.List.{List, map}
 use mathlib.Core.Path.{_≡_, refl, sym, ap, subst, _∙_}
@@ -24,11 +24,11 @@ use Rattle.search_model.specs.Choice.{within}
 use Rattle.search_model.specs.Records.{is-open, f, f-hat, blank}
 use Rattle.table.specs.declared.frontier.Frontier.{Frontier}
 use Rattle.table.specs.declared.node.Node.{Node}
-use Rattle.table.specs.Frontier.{Prepared, Puttable, PutDone, with-kept, counted-by}
+use Rattle.table.specs.Frontier.{Puttable, PutDone, with-kept, counted-by}
 use Rattle.table.specs.Order.{cost-place, near-place-of}
 use Rattle.table.specs.Seats.{low-entry, with-low-entry, low-note, with-low-note, hope-entry, with-hope-entry, hope-note, with-hope-note, near-entry, with-near-entry, near-note, with-near-note, far-entry, with-far-entry, far-note, with-far-note}
-use Rattle.table.specs.Table.{records, low-wanted, hope-wanted, near-side-wanted, far-side-wanted, near-side, far-side, near-entry-of}
-use Rattle.table.proofs.Requeue.{face, faced, can-update, after-update, at-last, put-records, put-length, put-limits, put-covered}
+use Rattle.table.specs.Table.{low-wanted, hope-wanted, near-side-wanted, far-side-wanted, near-side, far-side, near-entry-of}
+use Rattle.table.proofs.Requeue.{face, faced, can-update, after-update, at-last, put-records, put-length, put-limits, put-covered, put-side, put-elsewhere}
 
 -- A node that no table has, for reads past the last place.
 abbrev pub no-node : Node
@@ -188,6 +188,8 @@ module _ {s : Search} {fr : Frontier} {t : List Node} {place : ℕ} {kept : Reco
               same-cover = cover;
               same-length = put-length P (node-at t place) t₅ faces;
             };
+            there = put-side P (node-at t place) t₅ faces;
+            others = put-elsewhere P (node-at t place) t₅ faces;
             nears = λ d. nears ∙ ap (λ (n : Node). counted-by (fr .nears) (near-side (renewed t place kept side)) (near-side n)) (getD-default t place no-node d (P .on));
             fars = λ d. fars ∙ ap (λ (n : Node). counted-by (fr .fars) (far-side (renewed t place kept side)) (far-side n)) (getD-default t place no-node d (P .on));
           }

@@ -1,9 +1,9 @@
 -- What a table wants of a place, read off the place's node.
 use Prim.Native.Nat.{ℕ, zero, suc, _<_, _≤_}
-use mathlib.Core.Bool.{Bool, true, false, cond, _&&_}
-use mathlib.Core.List.{List, [], _∷_, map}
+use mathlib.Core.Bool.{Bool, true, cond, _&&_}
+use mathlib.Core.List.{List, [], _∷_}
 use mathlib.Core.Logic.{⊎-elim, inl, inr}
-use mathlib.Core.Path.{_≡_, refl, sym, ap, subst, _∙_}
+use mathlib.Core.Path.{_≡_, refl, sym, subst, _∙_}
 use native.Mathlib.Omega.{arith}
 use lib.Dec.{leb, ltb, eqb}
 use lib.ListN.{length, getD}
@@ -11,9 +11,8 @@ use Rattle.std.proofs.shelf.Lists.{getD-default}
 use Rattle.std.proofs.shelf.Tests.{cases-lt, cond-true, or-cases, and-parts, ltb-true, leb-true, eqb-true}
 use Rattle.std.specs.declared.option.Option.{Option}
 use Rattle.std.specs.declared.option.Option.the-variants.{Some, None}
-use Rattle.queue.specs.Keys.{cost-at-most, near-at-most}
+use Rattle.queue.specs.Keys.{cost-at-most}
 use Rattle.queue.specs.declared.entry.CostEntry.{CostEntry}
-use Rattle.queue.specs.declared.entry.NearEntry.{NearEntry}
 use Rattle.roster.specs.Check.{expected-in}
 use Rattle.roster.proofs.Changing.{if-some}
 use Rattle.roster.proofs.Wishes.{expected-at, expected-past}

@@ -3,11 +3,11 @@ use Prim.Native.Nat.{ℕ, _<_, _≤_}
 use mathlib.Core.Bool.{Bool, true, false, cond}
 use mathlib.Core.List.{List, map, map-map}
 use mathlib.Core.Logic.{⊎-elim}
-use mathlib.Core.Path.{_≡_, refl, sym, ap, subst, _∙_}
+use mathlib.Core.Path.{_≡_, sym, ap, subst, _∙_}
 use native.Mathlib.Omega.{arith}
 use lib.ListN.{length, getD, set, length-set}
 use lib.Seq.{map-set, getD-set-same, getD-set-other}
-use Rattle.std.proofs.shelf.Lists.{getD-default, length-map}
+use Rattle.std.proofs.shelf.Lists.{length-map}
 use Rattle.std.proofs.shelf.Tests.{cases-eq}
 use Rattle.std.specs.Options.{isSome}
 use Rattle.std.specs.declared.option.Option.{Option}
@@ -18,7 +18,7 @@ use Rattle.roster.specs.Update.{Updatable}
 use Rattle.roster.proofs.Changing.{expected-set, expected-kept, some-if, if-some}
 use Rattle.roster.proofs.Wishes.{expected-read}
 use Rattle.roster.proofs.Holding.{holds-same}
-use Rattle.roster.proofs.Keeping.{kept-part, holds-set}
+use Rattle.roster.proofs.Keeping.{kept-part}
 use Rattle.roster.proofs.Updating.{Updated}
 use Rattle.search_model.specs.declared.records.Record.{Record}
 use Rattle.search_model.specs.declared.search.Search.{Search}
@@ -28,7 +28,7 @@ use Rattle.search_model.specs.Records.{at}
 use Rattle.search_model.proofs.Table.{changed, changed-keeps}
 use Rattle.table.specs.declared.frontier.Frontier.{Frontier}
 use Rattle.table.specs.declared.node.Node.{Node}
-use Rattle.table.specs.Frontier.{Prepared, Puttable, with-kept}
+use Rattle.table.specs.Frontier.{Puttable, with-kept}
 use Rattle.table.specs.Table.{records, far-side}
 
 -- What expectations read of a node, and a node that has it.
@@ -103,6 +103,17 @@ module _ {s : Search} {fr : Frontier} {t : List Node} {place : ℕ} {kept : Reco
       let on : place < length (records t) = omega (arith, P .on, length-map t (λ (n : Node). n .kept)) in
       subst (λ (rs : List Record). RecordLimits (at rs p)) (sym put-records)
       (changed-keeps (changed (records t) place kept on) RecordLimits (P .limits) p (P .prepared .ready .limits p))
+
+  same-faces : (d : Node) (p : ℕ) → face (getD u p d) ≡ face (getD (set t place (with-kept old kept side)) p d)
+  same-faces = kept-part face (set t place (with-kept old kept side)) u (length-face (set t place (with-kept old kept side)) u same) same
+
+  pub put-side : (d : Node) → getD u place d .side ≡ side
+  put-side d = ap (λ (x : Record × ℕ). x .1) (same-faces d place) ∙ ap (λ (n : Node). n .side) (getD-set-same t place (with-kept old kept side) d (P .on))
+
+  pub put-elsewhere : (d : Node) (p : ℕ) → (p ≡ place → ⊥) → (getD u p d .kept ≡ getD t p d .kept) × (getD u p d .side ≡ getD t p d .side)
+  put-elsewhere d p ne =
+      let e : face (getD u p d) ≡ face (getD t p d) = same-faces d p ∙ ap face (getD-set-other t place p (with-kept old kept side) d ne) in
+      (ap (λ (x : Record × ℕ). x .0) e, ap (λ (x : Record × ℕ). x .1) e)
 
   abbrev Covered : Record × ℕ → Type 0
   Covered x = far-side (faced x) ≡ true → within s (fr .cover) (x .0) ≡ false

@@ -1,18 +1,16 @@
 -- Places that change sides.
-use Prim.Native.Nat.{ℕ, zero, suc, _+_, _-_, _*_, _<_, _≤_}
-use mathlib.Core.Bool.{Bool, true, false, cond, _&&_, not}
+use Prim.Native.Nat.{ℕ, zero, suc, _-_, _*_, _<_, _≤_}
+use mathlib.Core.Bool.{Bool, true, false, not}
 use mathlib.Core.List.{List, [], _∷_}
-use mathlib.Core.Logic.{⊎-elim}
 use mathlib.Core.Path.{_≡_, refl, sym, ap, subst, _∙_}
 use native.Mathlib.Nat.{mul-le-mul-left}
 use native.Mathlib.Omega.{arith}
 use lib.Dec.{leb, eqb}
-use lib.ListN.{length, getD, set}
+use lib.ListN.{getD, set}
 use Rattle.std.proofs.shelf.Lists.{getD-default}
 use Rattle.std.proofs.shelf.Tests.{and-right, and-parts, lt-leb, leb-false, both-ways}
-use Rattle.std.specs.declared.option.Option.{Option}
 use Rattle.std.specs.declared.option.Option.the-variants.{Some, None}
-use Rattle.queue.specs.Keys.{cost-at-most, near-at-most}
+use Rattle.queue.specs.Keys.{cost-at-most}
 use Rattle.queue.specs.declared.entry.CostEntry.{CostEntry}
 use Rattle.queue.specs.declared.entry.NearEntry.{NearEntry}
 use Rattle.roster.specs.Check.{expected-in}
@@ -23,12 +21,12 @@ use Rattle.search_model.specs.declared.search.Search.{Search}
 use Rattle.search_model.specs.Choice.{within}
 use Rattle.search_model.specs.Expansion.{closed}
 use Rattle.search_model.specs.Fields.{RecordLimits, SeenLimits}
-use Rattle.search_model.specs.Records.{blank, at, is-open, f-hat, Seen}
+use Rattle.search_model.specs.Records.{blank, at, is-open, f-hat}
 use Rattle.table.specs.declared.frontier.Frontier.{Frontier}
 use Rattle.table.specs.declared.node.Node.{Node}
-use Rattle.table.specs.Frontier.{Prepared, Puttable, RecordPut, PutDone, with-kept, counted-by}
-use Rattle.table.specs.Moves.{Labelled, Closing, Movable, Moved, Rearranged, AllBeyond, OnSide, HeadWithin, sided}
-use Rattle.table.specs.Order.{cost-place, near-place-of}
+use Rattle.table.specs.Frontier.{Prepared, Puttable, RecordPut, PutDone, counted-by}
+use Rattle.table.specs.Moves.{Labelled, Closing, Movable, Moved, Rearranged, AllBeyond, OnSide, sided}
+use Rattle.table.specs.Order.{cost-place}
 use Rattle.table.specs.Table.{records, far-side-wanted, near-side-wanted, near-side, far-side, near-entry-of}
 use Rattle.table.proofs.Putting.{no-node, node-at}
 use Rattle.table.proofs.Reading.{kept-at, wants, wanted-here, by-default, cost-before, before-le}
@@ -59,6 +57,8 @@ module _ {s : Search} {fr : Frontier} {t : List Node} {place side : ℕ} (M : Mo
       same-length = D .put .same-length;
       covers = D .put .same-cover;
     };
+    there = D .there;
+    others = D .others;
     nears = λ d. by-default (λ (n : Node). fr′ .nears ≡ counted-by (fr .nears) (near-side (sided n side)) (near-side n)) t place (M .on) (D .nears no-node) d;
     fars = λ d. by-default (λ (n : Node). fr′ .fars ≡ counted-by (fr .fars) (far-side (sided n side)) (far-side n)) t place (M .on) (D .fars no-node) d;
   }

@@ -40,8 +40,10 @@ pub record RecordPut (s : Search) (fr : Frontier) (t : List Node) (place : ℕ) 
   pub same-cover : fr′ .cover ≡ fr .cover
   pub same-length : length t′ ≡ length t
 
--- The same with the numbers of places on each side.
+-- The same with the sides and the numbers of places on each side.
 pub record PutDone (s : Search) (fr : Frontier) (t : List Node) (place : ℕ) (kept : Record) (side : ℕ) (fr′ : Frontier) (t′ : List Node) : Type 0 where
   pub put : RecordPut s fr t place kept fr′ t′
+  pub there : (d : Node) → getD t′ place d .side ≡ side
+  pub others : (d : Node) (p : ℕ) → (p ≡ place → ⊥) → (getD t′ p d .kept ≡ getD t p d .kept) × (getD t′ p d .side ≡ getD t p d .side)
   pub nears : (d : Node) → fr′ .nears ≡ counted-by (fr .nears) (near-side (with-kept d kept side)) (near-side (getD t place d))
   pub fars : (d : Node) → fr′ .fars ≡ counted-by (fr .fars) (far-side (with-kept d kept side)) (far-side (getD t place d))

@@ -8,3 +8,5 @@ pub mod Rebound
 pub mod Frontier
 pub mod Moves
 pub mod Choose
+pub mod Endings
+pub mod Starting

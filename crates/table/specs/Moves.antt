@@ -1,9 +1,9 @@
 -- What the calls that change the frontier require and promise.
 use Prim.Native.Nat.{ℕ, _*_, _<_, _≤_}
-use mathlib.Core.Bool.{Bool, true, false, _&&_, not}
+use mathlib.Core.Bool.{Bool, true, false}
 use mathlib.Core.List.{List}
 use mathlib.Core.Path.{_≡_}
-use lib.Dec.{leb, eqb}
+use lib.Dec.{leb}
 use lib.ListN.{length, getD}
 use Rattle.queue.specs.Keys.{near-at-most}
 use Rattle.queue.specs.declared.entry.NearEntry.{NearEntry}
@@ -15,7 +15,7 @@ use Rattle.search_model.specs.declared.records.Record.{Record}
 use Rattle.search_model.specs.declared.search.Search.{Search}
 use Rattle.search_model.specs.Choice.{within}
 use Rattle.search_model.specs.Fields.{RecordLimits}
-use Rattle.search_model.specs.Records.{at, Seen}
+use Rattle.search_model.specs.Records.{Seen}
 use Rattle.table.specs.declared.frontier.Frontier.{Frontier}
 use Rattle.table.specs.declared.node.Node.{Node}
 use Rattle.table.specs.Frontier.{Prepared, with-kept, counted-by}
@@ -55,6 +55,8 @@ pub record Rearranged (s : Search) (t : List Node) (cover : ℕ) (fr′ : Fronti
 -- The place is on the side.
 pub record Moved (s : Search) (fr : Frontier) (t : List Node) (place side : ℕ) (fr′ : Frontier) (t′ : List Node) : Type 0 where
   pub same : Rearranged s t (fr .cover) fr′ t′
+  pub there : (d : Node) → getD t′ place d .side ≡ side
+  pub others : (d : Node) (p : ℕ) → (p ≡ place → ⊥) → (getD t′ p d .kept ≡ getD t p d .kept) × (getD t′ p d .side ≡ getD t p d .side)
   pub nears : (d : Node) → fr′ .nears ≡ counted-by (fr .nears) (near-side (sided (getD t place d) side)) (near-side (getD t place d))
   pub fars : (d : Node) → fr′ .fars ≡ counted-by (fr .fars) (far-side (sided (getD t place d) side)) (far-side (getD t place d))
 

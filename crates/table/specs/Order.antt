@@ -35,7 +35,7 @@ record-right r =
     leb (r .mark) 2
     && (is-unseen r || (leb (r .label) limit && (leb (r .low) (r .hope) && (leb (r .hope) limit && leb (r .steps) limit))))
 
--- Question 36 as a test: records within their limits; the low and the hope queue hold every open place, the near queue the
+-- A table in order, as a test: records within their limits; the low and the hope queue hold every open place, the near queue the
 -- near set, each once, arranged by the queue's own rule.
 abbrev pub in-order : Search → List Node → Bool
 in-order s t =

@@ -1,8 +1,6 @@
 // The open places of a table while an advance runs, and every change of a place's record.
 ghost use mathlib.Core.Path.{_≡_};
 ghost use denote.Ref.{now};
-ghost use lib.Dec.{leb};
-ghost use Prim.Native.Nat.{_*_};
 ghost use Rattle.search_model.specs.Fields.{RecordLimits};
 ghost use Rattle.search_model.specs.Records.{is-open};
 ghost use Rattle.table.specs.Frontier.{Puttable, PutDone};
@@ -41,14 +39,14 @@ pub struct Frontier {
 }
 
 // Whether the record is of an open place.
-fn open_now(kept: Record) -> bool
+pub(crate) fn open_now(kept: Record) -> bool
     ensures { λ r. ⌜ r ≡ is-open kept ⌝ }
 {
     kept.mark == 1
 }
 
 // Whether the node is of an open place on the near side.
-fn on_near_side(node: Node) -> bool
+pub(crate) fn on_near_side(node: Node) -> bool
     ensures { λ r. ⌜ r ≡ near-side node ⌝ }
 {
     open_now(node.kept) && node.side == 1
@@ -108,7 +106,7 @@ fn want_near(search: Search, node: Node, place: u32) -> Option<NearEntry>
 }
 
 // The entry that the far queue wants of a place.
-fn want_far(node: Node, place: u32) -> Option<CostEntry>
+pub(crate) fn want_far(node: Node, place: u32) -> Option<CostEntry>
     requires { ⌜ RecordLimits (node .kept) ⌝ }
     ensures { λ r. ⌜ r ≡ far-side-wanted node place ⌝ }
 {

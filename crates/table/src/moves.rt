@@ -4,8 +4,7 @@ ghost use Prim.Native.Nat.{_*_};
 ghost use denote.Ref.{now};
 ghost use lib.Dec.{leb};
 ghost use Rattle.search_model.specs.Expansion.{closed};
-ghost use Rattle.search_model.specs.Fields.{RecordLimits};
-ghost use Rattle.search_model.specs.Records.{at, f-hat};
+ghost use Rattle.search_model.specs.Records.{at};
 ghost use Rattle.table.specs.Frontier.{Prepared, RecordPut};
 ghost use Rattle.table.specs.Moves.{Labelled, Closing, Movable, Moved, FarWithin, NearBeyond, Raised, Dropped, Lowered};
 ghost use Rattle.table.specs.Table.{records};
@@ -71,7 +70,7 @@ pub fn close(frontier: Frontier, search: Search, table: &mut [Node], place: u32)
 }
 
 // Moves a place to a side.
-fn move_place(
+pub(crate) fn move_place(
     frontier: Frontier,
     search: Search,
     table: &mut [Node],

@@ -1,4 +1,4 @@
-use mathlib.Core.Path.{_≡_, refl, sym, ap, subst, _∙_}
+use mathlib.Core.Path.{_≡_, refl, sym, _∙_}
 use Rattle.table.proofs.Putting.{can-low, can-hope, can-near, can-far, low-last, hope-last, near-last, far-last, put-done, counted}
 use Rattle.table.proofs.frontier.put_record.Needs as need
 
