@@ -19,6 +19,8 @@ use layout::LayoutIsFloor;
 use layout::intake;
 use layout::shut_sample::shut_place;
 use layout::six_places;
+use std::alloc::AllocError;
+use std::alloc::Global;
 use std::test::*;
 
 // Over a floor that means three by three cells of bytes 1 to 9 with goal 8, shutting place 1 bars leg 0 of place 4.
@@ -74,9 +76,18 @@ fn two_over_one(rt: LibcRuntime) -> Result<(), Fail> {
     legs_are(&grid, 4, [to(1, 2), to(5, 6), to(7, 8), to(3, 4)])
 }
 
+// The bytes of the six-place sample.
+fn sample(heap: Global) -> Result<Vec<u8>, AllocError> {
+    let mut layout = Vec::new(heap);
+    for record in &six_places() {
+        layout.extend_from_slice(record)?;
+    }
+    Ok(layout)
+}
+
 #[test]
 fn over_a_layout(rt: LibcRuntime) -> Result<(), Fail> {
-    match intake(six_places().to_vec(rt.alloc())?) {
+    match intake(sample(rt.alloc())?) {
         Ok(floor) => {
             let mut shut = Shut::new(&floor);
             legs_are(&shut, 2, [to(3, 5), to(4, 4), None, None])?;
