@@ -1,4 +1,6 @@
 // The worked cases, from the sample layout to the searches on it.
+#![tactic(auto)]
+
 ghost use Rattle.std.specs.Prelude.{◌≡◌};
 ghost use Rattle.cases.specs.Cases.{least_route, WorkedCases};
 ghost use Rattle.cases.specs.Premises.{PremisesMet};

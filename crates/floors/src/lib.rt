@@ -1,4 +1,6 @@
 // Floors: places, the legs between them and what is estimated of the way to a goal.
+#![tactic(auto)]
+
 pub mod floor;
 pub mod grid;
 mod grid_cells;

@@ -1,4 +1,6 @@
 // Tests of the grid floor and of the shut floor.
+#![tactic(auto)]
+
 #[cfg(test)]
 mod build;
 #[cfg(test)]

@@ -1,4 +1,6 @@
 // One call from a layout's bytes to a route: the intake, a begin, one advance, and a read of a settled search.
+#![tactic(auto)]
+
 pub mod answer;
 pub mod fault;
 mod floor_job;

@@ -1,4 +1,6 @@
 // The layout floor: 16-byte records of places and legs, taken in by nine questions.
+#![tactic(auto)]
+
 mod accept;
 mod counts;
 mod draft;

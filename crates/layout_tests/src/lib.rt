@@ -1,4 +1,6 @@
 // Tests of the layout intake, run on layouts that are built record by record.
+#![tactic(auto)]
+
 #[cfg(test)]
 mod answers;
 #[cfg(test)]

@@ -12,7 +12,7 @@ use crate::slot::Slot;
 // The head of a queue of n: its least entry, or none if it is empty.
 pub fn head<Q, R: Slot<Q>>(slots: &[R], n: usize) -> Option<R::Entry>
     requires { n ≤ length slots.now }
-    ensures { Head R.Entry.Ranked.at_most n (entries entry_of n slots.now) result }
+    ensures { Head R.Entry.Ranked.at_most n (entries R.entry_of n slots.now) result }
 {
     if n == 0 {
         None
@@ -24,8 +24,8 @@ pub fn head<Q, R: Slot<Q>>(slots: &[R], n: usize) -> Option<R::Entry>
 // Inserts e into a queue of n, and returns the deepest slot that changed.
 pub fn insert<Q, R: Slot<Q>>(slots: &mut [R], n: usize, e: R::Entry) -> usize
     requires { n < length slots.old }
-    ensures queue { Inserted R.Entry.Ranked.at_most e (entries entry_of n slots.old) (entries entry_of (n + 1) slots.new) }
-    ensures frame { Frame entry_of with_entry result slots.old slots.new }
+    ensures queue { Inserted R.Entry.Ranked.at_most e (entries R.entry_of n slots.old) (entries R.entry_of (n + 1) slots.new) }
+    ensures frame { Frame R.entry_of R.with_entry result slots.old slots.new }
     ensures deepest { result ≡ n }
 {
     settle::<Q, R>(slots, n + 1, n, e)
@@ -34,8 +34,8 @@ pub fn insert<Q, R: Slot<Q>>(slots: &mut [R], n: usize, e: R::Entry) -> usize
 // Removes the entry in slot i of a queue of n, and returns the deepest slot that changed, or 0 where i was the last slot and nothing moved.
 pub fn remove_at<Q, R: Slot<Q>>(slots: &mut [R], n: usize, i: usize) -> usize
     requires { (n ≤ length slots.old) × (i < n) }
-    ensures queue { RemovedAt R.Entry.Ranked.at_most i (entries entry_of n slots.old) (entries entry_of (n - 1) slots.new) }
-    ensures frame { Frame entry_of with_entry result slots.old slots.new }
+    ensures queue { RemovedAt R.Entry.Ranked.at_most i (entries R.entry_of n slots.old) (entries R.entry_of (n - 1) slots.new) }
+    ensures frame { Frame R.entry_of R.with_entry result slots.old slots.new }
     ensures deepest { result ≤ n - 2 }
     ensures beyond { SameFrom (n - 1) slots.old slots.new }
 {
@@ -46,8 +46,8 @@ pub fn remove_at<Q, R: Slot<Q>>(slots: &mut [R], n: usize, i: usize) -> usize
 // Replaces the entry in slot i of a queue of n by e, and returns the deepest slot that changed.
 pub fn replace_at<Q, R: Slot<Q>>(slots: &mut [R], n: usize, i: usize, e: R::Entry) -> usize
     requires { (n ≤ length slots.old) × (i < n) }
-    ensures queue { ReplacedAt R.Entry.Ranked.at_most i e (entries entry_of n slots.old) (entries entry_of n slots.new) }
-    ensures frame { Frame entry_of with_entry result slots.old slots.new }
+    ensures queue { ReplacedAt R.Entry.Ranked.at_most i e (entries R.entry_of n slots.old) (entries R.entry_of n slots.new) }
+    ensures frame { Frame R.entry_of R.with_entry result slots.old slots.new }
     ensures deepest { result < n }
 {
     settle::<Q, R>(slots, n, i, e)
@@ -56,7 +56,7 @@ pub fn replace_at<Q, R: Slot<Q>>(slots: &mut [R], n: usize, i: usize, e: R::Entr
 // The entry in slot i.
 pub(crate) fn slot_entry<Q, R: Slot<Q>>(slots: &[R], i: usize) -> R::Entry
     requires { i < length slots.now }
-    ensures { (d : _) → entry_at entry_of slots.now d i ≡ result }
+    ensures { (d : _) → entry_at R.entry_of slots.now d i ≡ result }
 {
     slots[i].entry()
 }
@@ -64,7 +64,7 @@ pub(crate) fn slot_entry<Q, R: Slot<Q>>(slots: &[R], i: usize) -> R::Entry
 // The entry in slot 0, which is the head of a queue of n that is not empty.
 fn first_entry<Q, R: Slot<Q>>(slots: &[R], n: usize) -> R::Entry
     requires { (0 < n) × (n ≤ length slots.now) }
-    ensures { HeadEntry R.Entry.Ranked.at_most n (entries entry_of n slots.now) result }
+    ensures { HeadEntry R.Entry.Ranked.at_most n (entries R.entry_of n slots.now) result }
 {
     slot_entry::<Q, R>(slots, 0)
 }
@@ -72,8 +72,8 @@ fn first_entry<Q, R: Slot<Q>>(slots: &[R], n: usize) -> R::Entry
 // Puts `last`, the last entry of a queue of n, in the place of the entry in slot i.
 fn close_gap<Q, R: Slot<Q>>(slots: &mut [R], n: usize, i: usize, last: R::Entry) -> usize
     requires { (n ≤ length slots.old) × (i < n) }
-    ensures queue { ((d : _) → entry_at entry_of slots.old d (n - 1) ≡ last) → RemovedAt R.Entry.Ranked.at_most i (entries entry_of n slots.old) (entries entry_of (n - 1) slots.new) }
-    ensures frame { Frame entry_of with_entry result slots.old slots.new }
+    ensures queue { ((d : _) → entry_at R.entry_of slots.old d (n - 1) ≡ last) → RemovedAt R.Entry.Ranked.at_most i (entries R.entry_of n slots.old) (entries R.entry_of (n - 1) slots.new) }
+    ensures frame { Frame R.entry_of R.with_entry result slots.old slots.new }
     ensures deepest { result ≤ n - 2 }
     ensures beyond { SameFrom (n - 1) slots.old slots.new }
 {
@@ -87,9 +87,9 @@ fn close_gap<Q, R: Slot<Q>>(slots: &mut [R], n: usize, i: usize, last: R::Entry)
 // Writes e where it fits among the first n slots, with the hole in slot i, and returns the deepest slot that changed.
 fn settle<Q, R: Slot<Q>>(slots: &mut [R], n: usize, i: usize, e: R::Entry) -> usize
     requires { (n ≤ length slots.old) × (i < n) }
-    ensures inserted { n ≡ i + 1 → Inserted R.Entry.Ranked.at_most e (entries entry_of i slots.old) (entries entry_of n slots.new) }
-    ensures replaced { ReplacedAt R.Entry.Ranked.at_most i e (entries entry_of n slots.old) (entries entry_of n slots.new) }
-    ensures frame { Frame entry_of with_entry result slots.old slots.new }
+    ensures inserted { n ≡ i + 1 → Inserted R.Entry.Ranked.at_most e (entries R.entry_of i slots.old) (entries R.entry_of n slots.new) }
+    ensures replaced { ReplacedAt R.Entry.Ranked.at_most i e (entries R.entry_of n slots.old) (entries R.entry_of n slots.new) }
+    ensures frame { Frame R.entry_of R.with_entry result slots.old slots.new }
     ensures deepest { (i ≤ result) × (result < n) }
 {
     let top = sift_up::<Q, R>(slots, i, e);
@@ -122,7 +122,7 @@ fn left_child(i: usize, n: usize) -> usize
 // Whether e may stand below the entry in slot i.
 fn fits_above<Q, R: Slot<Q>>(slots: &[R], i: usize, e: R::Entry) -> bool
     requires { i < length slots.now }
-    ensures { (d : _) → R.Entry.Ranked.at_most (entry_at entry_of slots.now d i) e ≡ result }
+    ensures { (d : _) → R.Entry.Ranked.at_most (entry_at R.entry_of slots.now d i) e ≡ result }
 {
     slot_entry::<Q, R>(slots, i).at_most(&e)
 }
@@ -130,7 +130,7 @@ fn fits_above<Q, R: Slot<Q>>(slots: &[R], i: usize, e: R::Entry) -> bool
 // Whether e may stand above the entry in slot i.
 fn fits_below<Q, R: Slot<Q>>(slots: &[R], i: usize, e: R::Entry) -> bool
     requires { i < length slots.now }
-    ensures { (d : _) → R.Entry.Ranked.at_most e (entry_at entry_of slots.now d i) ≡ result }
+    ensures { (d : _) → R.Entry.Ranked.at_most e (entry_at R.entry_of slots.now d i) ≡ result }
 {
     e.at_most(&slot_entry::<Q, R>(slots, i))
 }
@@ -138,7 +138,7 @@ fn fits_below<Q, R: Slot<Q>>(slots: &[R], i: usize, e: R::Entry) -> bool
 // Moves the hole up while its parent slot's entry is above e, and returns where it ended.
 fn sift_up<Q, R: Slot<Q>>(slots: &mut [R], from: usize, e: R::Entry) -> usize
     requires { from < length slots.old }
-    ensures { Risen R.Entry.Ranked.at_most entry_of with_entry slots.old from e slots.new result }
+    ensures { Risen R.Entry.Ranked.at_most R.entry_of R.with_entry slots.old from e slots.new result }
 {
     let mut hole = from;
     while hole > 0 {
@@ -156,7 +156,7 @@ fn sift_up<Q, R: Slot<Q>>(slots: &mut [R], from: usize, e: R::Entry) -> usize
 // The child slot of the hole whose entry is least.
 fn least_child<Q, R: Slot<Q>>(slots: &[R], n: usize, hole: usize) -> usize
     requires { (n ≤ length slots.now) × (hole < n / 2) }
-    ensures { LeastChild R.Entry.Ranked.at_most (entry_at entry_of slots.now) n hole result }
+    ensures { LeastChild R.Entry.Ranked.at_most (entry_at R.entry_of slots.now) n hole result }
 {
     let left = left_child(hole, n);
     let right = left + 1;
@@ -175,7 +175,7 @@ fn least_child<Q, R: Slot<Q>>(slots: &[R], n: usize, hole: usize) -> usize
 // Moves the hole down while a child slot's entry is below e, and returns where it ended.
 fn sift_down<Q, R: Slot<Q>>(slots: &mut [R], n: usize, from: usize, e: R::Entry) -> usize
     requires { (n ≤ length slots.old) × (from < n) }
-    ensures { Sunk R.Entry.Ranked.at_most entry_of with_entry n slots.old from e slots.new result }
+    ensures { Sunk R.Entry.Ranked.at_most R.entry_of R.with_entry n slots.old from e slots.new result }
 {
     let mut hole = from;
     while hole < n / 2 {

@@ -37,12 +37,12 @@ pub trait Homed<Q>: Slot<Q> {
 
 // Inserts e into a queue of n whose notes are right, and returns the deepest slot that changed. The home of e has no entry in the queue.
 pub fn insert<Q, R: Homed<Q>>(slots: &mut [R], n: usize, e: R::Entry) -> usize
-    requires room { (n < length slots.old) × (length slots.old ≤ note_limit) }
-    requires notes { NotesRight home_of R.Slot.entry_of note_of n slots.old }
-    requires home { (home_of e < length slots.old) × (Absent home_of R.Slot.entry_of n slots.old (home_of e)) }
+    requires room { (n < length slots.old) × (length slots.old ≤ R.note_limit) }
+    requires notes { NotesRight R.home_of R.Slot.entry_of R.note_of n slots.old }
+    requires home { (R.home_of e < length slots.old) × (Absent R.home_of R.Slot.entry_of n slots.old (R.home_of e)) }
     ensures queue { Inserted R.Entry.Ranked.at_most e (entries R.Slot.entry_of n slots.old) (entries R.Slot.entry_of (n + 1) slots.new) }
-    ensures notes { NotesRight home_of R.Slot.entry_of note_of (n + 1) slots.new }
-    ensures frame { IndexedFrame home_of R.Slot.entry_of R.Slot.with_entry note_of with_note result slots.old slots.new }
+    ensures notes { NotesRight R.home_of R.Slot.entry_of R.note_of (n + 1) slots.new }
+    ensures frame { IndexedFrame R.home_of R.Slot.entry_of R.Slot.with_entry R.note_of R.with_note result slots.old slots.new }
     ensures deepest { result ≡ n }
 {
     let deepest = heap::insert::<Q, R>(slots, n, e);
@@ -52,12 +52,12 @@ pub fn insert<Q, R: Homed<Q>>(slots: &mut [R], n: usize, e: R::Entry) -> usize
 
 // Removes the entry of a home from a queue of n whose notes are right, and returns the deepest slot that changed.
 pub fn remove<Q, R: Homed<Q>>(slots: &mut [R], n: usize, home: usize) -> usize
-    requires room { (n ≤ length slots.old) × (length slots.old ≤ note_limit) }
-    requires notes { NotesRight home_of R.Slot.entry_of note_of n slots.old }
-    requires home { Present home_of R.Slot.entry_of note_of n slots.old home }
-    ensures queue { (r : _) → RemovedAt Entry-as-Ranked.at_most (note_of (slice_index_or slots.old home r)) (entries R.Slot.entry_of n slots.old) (entries R.Slot.entry_of (n - 1) slots.new) }
-    ensures notes { NotesRight home_of R.Slot.entry_of note_of (n - 1) slots.new }
-    ensures frame { IndexedFrame home_of R.Slot.entry_of R.Slot.with_entry note_of with_note result slots.old slots.new }
+    requires room { (n ≤ length slots.old) × (length slots.old ≤ R.note_limit) }
+    requires notes { NotesRight R.home_of R.Slot.entry_of R.note_of n slots.old }
+    requires home { Present R.home_of R.Slot.entry_of R.note_of n slots.old home }
+    ensures queue { (r : _) → RemovedAt R.Entry.Ranked.at_most (R.note_of (slice_index_or slots.old home r)) (entries R.Slot.entry_of n slots.old) (entries R.Slot.entry_of (n - 1) slots.new) }
+    ensures notes { NotesRight R.home_of R.Slot.entry_of R.note_of (n - 1) slots.new }
+    ensures frame { IndexedFrame R.home_of R.Slot.entry_of R.Slot.with_entry R.note_of R.with_note result slots.old slots.new }
     ensures deepest { result ≤ n - 2 }
 {
     let slot = slot_of::<Q, R>(slots, home);
@@ -66,12 +66,12 @@ pub fn remove<Q, R: Homed<Q>>(slots: &mut [R], n: usize, home: usize) -> usize
 
 // Replaces the entry of a home by another of the same home in a queue of n whose notes are right, and returns the deepest slot that changed.
 pub fn replace<Q, R: Homed<Q>>(slots: &mut [R], n: usize, home: usize, e: R::Entry) -> usize
-    requires room { (n ≤ length slots.old) × (length slots.old ≤ note_limit) }
-    requires notes { NotesRight home_of R.Slot.entry_of note_of n slots.old }
-    requires home { (Present home_of R.Slot.entry_of note_of n slots.old home) × (home_of e ≡ home) }
-    ensures queue { (r : _) → ReplacedAt R.Entry.Ranked.at_most (note_of (slice_index_or slots.old home r)) e (entries R.Slot.entry_of n slots.old) (entries R.Slot.entry_of n slots.new) }
-    ensures notes { NotesRight home_of R.Slot.entry_of note_of n slots.new }
-    ensures frame { IndexedFrame home_of R.Slot.entry_of R.Slot.with_entry note_of with_note result slots.old slots.new }
+    requires room { (n ≤ length slots.old) × (length slots.old ≤ R.note_limit) }
+    requires notes { NotesRight R.home_of R.Slot.entry_of R.note_of n slots.old }
+    requires home { (Present R.home_of R.Slot.entry_of R.note_of n slots.old home) × (R.home_of e ≡ home) }
+    ensures queue { (r : _) → ReplacedAt R.Entry.Ranked.at_most (R.note_of (slice_index_or slots.old home r)) e (entries R.Slot.entry_of n slots.old) (entries R.Slot.entry_of n slots.new) }
+    ensures notes { NotesRight R.home_of R.Slot.entry_of R.note_of n slots.new }
+    ensures frame { IndexedFrame R.home_of R.Slot.entry_of R.Slot.with_entry R.note_of R.with_note result slots.old slots.new }
     ensures deepest { result < n }
 {
     let slot = slot_of::<Q, R>(slots, home);
@@ -81,19 +81,19 @@ pub fn replace<Q, R: Homed<Q>>(slots: &mut [R], n: usize, home: usize, e: R::Ent
 // The slot that the home notes.
 pub fn slot_of<Q, R: Homed<Q>>(slots: &[R], home: usize) -> usize
     requires { home < length slots.now }
-    ensures { (r : _) → note_of (slice_index_or slots.now home r) ≡ result }
+    ensures { (r : _) → R.note_of (slice_index_or slots.now home r) ≡ result }
 {
     slots[home].note()
 }
 
 // Removes the entry in the slot that the home notes, and writes the notes of the entries that moved.
 fn remove_noted<Q, R: Homed<Q>>(slots: &mut [R], n: usize, home: usize, slot: usize) -> usize
-    requires room { (n ≤ length slots.old) × (length slots.old ≤ note_limit) }
-    requires notes { NotesRight home_of R.Slot.entry_of note_of n slots.old }
-    requires home { (Present home_of R.Slot.entry_of note_of n slots.old home) × (((r : _) → note_of (slice_index_or slots.old home r) ≡ slot)) }
-    ensures queue { (r : _) → RemovedAt Entry-as-Ranked.at_most (note_of (slice_index_or slots.old home r)) (entries R.Slot.entry_of n slots.old) (entries R.Slot.entry_of (n - 1) slots.new) }
-    ensures notes { NotesRight home_of R.Slot.entry_of note_of (n - 1) slots.new }
-    ensures frame { IndexedFrame home_of R.Slot.entry_of R.Slot.with_entry note_of with_note result slots.old slots.new }
+    requires room { (n ≤ length slots.old) × (length slots.old ≤ R.note_limit) }
+    requires notes { NotesRight R.home_of R.Slot.entry_of R.note_of n slots.old }
+    requires home { (Present R.home_of R.Slot.entry_of R.note_of n slots.old home) × (((r : _) → R.note_of (slice_index_or slots.old home r) ≡ slot)) }
+    ensures queue { (r : _) → RemovedAt R.Entry.Ranked.at_most (R.note_of (slice_index_or slots.old home r)) (entries R.Slot.entry_of n slots.old) (entries R.Slot.entry_of (n - 1) slots.new) }
+    ensures notes { NotesRight R.home_of R.Slot.entry_of R.note_of (n - 1) slots.new }
+    ensures frame { IndexedFrame R.home_of R.Slot.entry_of R.Slot.with_entry R.note_of R.with_note result slots.old slots.new }
     ensures deepest { result ≤ n - 2 }
 {
     let deepest = heap::remove_at::<Q, R>(slots, n, slot);
@@ -109,12 +109,12 @@ fn replace_noted<Q, R: Homed<Q>>(
     slot: usize,
     e: R::Entry,
 ) -> usize
-    requires room { (n ≤ length slots.old) × (length slots.old ≤ note_limit) }
-    requires notes { NotesRight home_of R.Slot.entry_of note_of n slots.old }
-    requires home { (Present home_of R.Slot.entry_of note_of n slots.old home) × ((((r : _) → note_of (slice_index_or slots.old home r) ≡ slot)) × (home_of e ≡ home)) }
-    ensures queue { (r : _) → ReplacedAt R.Entry.Ranked.at_most (note_of (slice_index_or slots.old home r)) e (entries R.Slot.entry_of n slots.old) (entries R.Slot.entry_of n slots.new) }
-    ensures notes { NotesRight home_of R.Slot.entry_of note_of n slots.new }
-    ensures frame { IndexedFrame home_of R.Slot.entry_of R.Slot.with_entry note_of with_note result slots.old slots.new }
+    requires room { (n ≤ length slots.old) × (length slots.old ≤ R.note_limit) }
+    requires notes { NotesRight R.home_of R.Slot.entry_of R.note_of n slots.old }
+    requires home { (Present R.home_of R.Slot.entry_of R.note_of n slots.old home) × ((((r : _) → R.note_of (slice_index_or slots.old home r) ≡ slot)) × (R.home_of e ≡ home)) }
+    ensures queue { (r : _) → ReplacedAt R.Entry.Ranked.at_most (R.note_of (slice_index_or slots.old home r)) e (entries R.Slot.entry_of n slots.old) (entries R.Slot.entry_of n slots.new) }
+    ensures notes { NotesRight R.home_of R.Slot.entry_of R.note_of n slots.new }
+    ensures frame { IndexedFrame R.home_of R.Slot.entry_of R.Slot.with_entry R.note_of R.with_note result slots.old slots.new }
     ensures deepest { result < n }
 {
     let deepest = heap::replace_at::<Q, R>(slots, n, slot, e);
@@ -124,8 +124,8 @@ fn replace_noted<Q, R: Homed<Q>>(
 
 // Writes the note of the entry in the slot.
 fn write_note<Q, R: Homed<Q>>(slots: &mut [R], slot: usize)
-    requires { (slot < length slots.old) × ((slot < note_limit) × (((d : _) → home_of (entry_at R.Slot.entry_of slots.old d slot) < length slots.old))) }
-    ensures { NoteWritten home_of R.Slot.entry_of note_of with_note slot slots.old slots.new }
+    requires { (slot < length slots.old) × ((slot < R.note_limit) × (((d : _) → R.home_of (entry_at R.Slot.entry_of slots.old d slot) < length slots.old))) }
+    ensures { NoteWritten R.home_of R.Slot.entry_of R.note_of R.with_note slot slots.old slots.new }
 {
     let e = heap::slot_entry::<Q, R>(slots, slot);
     let home = R::home(&e);
@@ -134,8 +134,8 @@ fn write_note<Q, R: Homed<Q>>(slots: &mut [R], slot: usize)
 
 // Writes the notes of the entries on the path of the slot `deepest`.
 fn write_notes<Q, R: Homed<Q>>(slots: &mut [R], deepest: usize)
-    requires { (deepest < length slots.old) × ((deepest < note_limit) × (((d : _) (i : ℕ) → i ≤ deepest → home_of (entry_at R.Slot.entry_of slots.old d i) < length slots.old))) }
-    ensures { Noted home_of R.Slot.entry_of note_of with_note (λ _. ⊥) deepest slots.old slots.new }
+    requires { (deepest < length slots.old) × ((deepest < R.note_limit) × (((d : _) (i : ℕ) → i ≤ deepest → R.home_of (entry_at R.Slot.entry_of slots.old d i) < length slots.old))) }
+    ensures { Noted R.home_of R.Slot.entry_of R.note_of R.with_note (λ _. ⊥) deepest slots.old slots.new }
 {
     let mut slot = deepest;
     while slot > 0 {

@@ -1,4 +1,6 @@
 // Records under test: a node with a slot of two queues, one of them indexed, and an event that is its own slot.
+#![tactic(auto)]
+
 ghost use Rattle.std.specs.Prelude.{◌≡◌, ℕ, ◌^◌, ◌<◌, length};
 ghost use Rattle.queue.specs.Entries.{entries};
 ghost use Rattle.queue.specs.Keys.{cost_at_most};

@@ -89,7 +89,7 @@ fn is_entry_right<Q, R: Homed<Q>, M: Expect<Q, R>>(
 // Whether the entry in slot i is right.
 fn is_slot_right<Q, R: Homed<Q>, M: Expect<Q, R>>(rule: &M, slots: &[R], i: usize) -> bool
     requires { (i < length slots.now) × (length slots.now ≤ R.Homed.note_limit) }
-    ensures { (d : _) → slot_right Entry-as-Ranked.at_most R.Homed.home_of R.Slot.entry_of R.Homed.note_of (expected_in (M.Expect.wanted rule.now) slots.now) d slots.now i ≡ result }
+    ensures { (d : _) → slot_right R.Entry.Ranked.at_most R.Homed.home_of R.Slot.entry_of R.Homed.note_of (expected_in (M.Expect.wanted rule.now) slots.now) d slots.now i ≡ result }
 {
     is_entry_right::<Q, R, M>(rule, slots, i, entry_at::<Q, R>(slots, i))
 }
@@ -97,7 +97,7 @@ fn is_slot_right<Q, R: Homed<Q>, M: Expect<Q, R>>(rule: &M, slots: &[R], i: usiz
 // A slot of n whose entry is not right, if there is one.
 fn wrong_slot<Q, R: Homed<Q>, M: Expect<Q, R>>(rule: &M, slots: &[R], n: usize) -> Option<usize>
     requires { (n ≤ length slots.now) × (length slots.now ≤ R.Homed.note_limit) }
-    ensures { IsFailing (λ d. slot_right Entry-as-Ranked.at_most R.Homed.home_of R.Slot.entry_of R.Homed.note_of (expected_in (M.Expect.wanted rule.now) slots.now) d slots.now) n result }
+    ensures { IsFailing (λ d. slot_right R.Entry.Ranked.at_most R.Homed.home_of R.Slot.entry_of R.Homed.note_of (expected_in (M.Expect.wanted rule.now) slots.now) d slots.now) n result }
 {
     for i in 0..n {
         if !is_slot_right::<Q, R, M>(rule, slots, i) {
@@ -148,8 +148,8 @@ fn wrong_home<Q, R: Homed<Q>, M: Expect<Q, R>>(rule: &M, slots: &[R], n: usize) 
 // The number of entries in the queue, if it holds exactly what is expected.
 pub fn check<Q, R: Homed<Q>, M: Expect<Q, R>>(rule: &M, slots: &[R]) -> Option<usize>
     requires { length slots.now ≤ R.Homed.note_limit }
-    ensures answer { result ≡ (if roster_right Entry-as-Ranked.at_most R.Homed.home_of R.Slot.entry_of R.Homed.note_of (expected_in (M.Expect.wanted rule.now) slots.now) slots.now then Some (expected_count (expected_in (M.Expect.wanted rule.now) slots.now) (length slots.now)) else None) }
-    ensures holds { Decided Entry-as-Ranked.at_most R.Homed.home_of R.Slot.entry_of R.Homed.note_of (expected_in (M.Expect.wanted rule.now) slots.now) slots.now result }
+    ensures answer { result ≡ (if roster_right R.Entry.Ranked.at_most R.Homed.home_of R.Slot.entry_of R.Homed.note_of (expected_in (M.Expect.wanted rule.now) slots.now) slots.now then Some (expected_count (expected_in (M.Expect.wanted rule.now) slots.now) (length slots.now)) else None) }
+    ensures holds { Decided R.Entry.Ranked.at_most R.Homed.home_of R.Slot.entry_of R.Homed.note_of (expected_in (M.Expect.wanted rule.now) slots.now) slots.now result }
 {
     let n = count_expected::<Q, R, M>(rule, slots);
     match wrong_slot::<Q, R, M>(rule, slots, n) {

@@ -1,4 +1,6 @@
 // Records under test: a node with two indexed queues, one of which holds what the nodes plan.
+#![tactic(auto)]
+
 ghost use Rattle.std.specs.Prelude.{◌≡◌, ℕ, ◌+◌, ◌^◌, ◌<◌, ◌≤◌, length, None, Option as OptionOf};
 ghost use Rattle.queue.specs.declared.entry.CostEntry.{CostEntry as CostEntryOf};
 ghost use Rattle.roster.specs.Check.{expected_in};

@@ -1,4 +1,6 @@
 // Reads a layout from standard input and says whether it is a floor.
+#![tactic(auto)]
+
 mod answer;
 mod input;
 

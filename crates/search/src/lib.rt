@@ -1,4 +1,6 @@
 // The calls of a search over a table: begin, advance, rebound and read, and the guarantee over every run of them.
+#![tactic(auto)]
+
 ghost use Rattle.search.specs.Runs.{Guarantee};
 
 pub mod advance;

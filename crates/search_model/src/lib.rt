@@ -1,4 +1,6 @@
 // The definition of the search over what a floor means and a list of records, and what it guarantees.
+#![tactic(auto)]
+
 ghost use Rattle.search_model.specs.Cases.{WorkedCases};
 ghost use Rattle.search_model.specs.Ending.{Ending};
 ghost use Rattle.search_model.specs.Fields.{LimitsKept};

@@ -7,4 +7,4 @@ invariant-loop-i g l =
     (k : ℕ)
     → k < l.i
     → (d : g.row.R.Denot)
-    → slot_right g.Entry.Ranked.at_most g.R.Homed.home_of g.R.Slot.entry_of g.R.Homed.note_of (expected_in (g.M.Expect.wanted l.rule) l.slots) d l.slots k ≡ true
+    → slot_right g.R.Entry.Ranked.at_most g.R.Homed.home_of g.R.Slot.entry_of g.R.Homed.note_of (expected_in (g.M.Expect.wanted l.rule) l.slots) d l.slots k ≡ true
