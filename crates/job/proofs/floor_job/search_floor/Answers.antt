@@ -10,11 +10,11 @@ returns-in_err-advanced g c =
     absurd (never_at_advance _ c.args.start c.args.bound c.args.budget c.args.table.now c.args.list.now c.in_ok-ask.ensures
     c.in_ok-running.running.state _ c.in_ok-running.ensures.done c.in_ok-running.ensures.guaranteed _ _ c.in_err-advanced.ensures.done)
 
-pub returns-in_err-route : goal.returns-in_err-route
-returns-in_err-route g c =
+pub returns-in_err-route-in-Settled : goal.returns-in_err-route-in-Settled
+returns-in_err-route-in-Settled g c =
     absurd (never_read _ c.args.start c.args.bound c.args.budget c.args.table.now c.args.list.now c.in_ok-ask.ensures
     c.in_ok-running.running.state _ c.in_ok-running.ensures.done c.in_ok-running.ensures.guaranteed
-    c.in_ok-advanced.advanced _ c.in_ok-advanced.ensures.done c.in-Settled.settled c.in-Settled.report c.in-Settled.is _ _ c.in_err-route.ensures)
+    c.in_ok-advanced.advanced _ c.in_ok-advanced.ensures.done c.in-Settled.settled c.in-Settled.report c.in-Settled.is _ _ c.in_err-route-in-Settled.ensures)
 
 pub returns-in-More : goal.returns-in-More
 returns-in-More g c =
@@ -23,11 +23,11 @@ returns-in-More g c =
     c.in_ok-advanced.advanced _ c.in_ok-advanced.ensures.done c.in-More.running c.in-More.report c.in-More.is in
     record { done = p.0; kept = p.1 }
 
-pub returns-in_ok-route : goal.returns-in_ok-route
-returns-in_ok-route g c =
+pub returns-in_ok-route-in-Settled : goal.returns-in_ok-route-in-Settled
+returns-in_ok-route-in-Settled g c =
     let p = job_settled _ c.args.start c.args.bound c.args.budget c.args.table.now c.args.list.now c.in_ok-ask.ensures
     c.in_ok-running.running.state _ c.in_ok-running.ensures.done c.in_ok-running.ensures.guaranteed
-    c.in_ok-advanced.advanced _ c.in_ok-advanced.ensures.done c.in-Settled.settled c.in-Settled.report c.in-Settled.is c.in_ok-route.route _ c.in_ok-route.ensures in
+    c.in_ok-advanced.advanced _ c.in_ok-advanced.ensures.done c.in-Settled.settled c.in-Settled.report c.in-Settled.is c.in_ok-route-in-Settled.route _ c.in_ok-route-in-Settled.ensures in
     record { done = p.0; kept = p.1 }
 
 pub returns-in-Barren : goal.returns-in-Barren
