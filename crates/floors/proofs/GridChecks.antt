@@ -1,12 +1,11 @@
 -- What the questions put to a grid establish.
-use Rattle.std.proofs.Common.{◌≡◌, ℕ, ◌<◌, ◌≤◌, Bool, true, false, cond, ◌&&◌, eqb, ltb, leb, List, length, get_or, IfOk, Some, None, Ok, Err, Option, Result, sym, refl, arith}
+use Rattle.std.proofs.Common.{◌≡◌, ℕ, ◌<◌, ◌≤◌, true, ◌&&◌, leb, List, length, get_or, IfOk, None, Ok, Err, Result, sym, arith}
 use Rattle.std.proofs.lemmas.Bool.{and_parts, leb-true, eqb-true, ltb-true}
 use Rattle.floors.specs.declared.grid_fault.GridFault.{GridFault}
 use Rattle.floors.specs.declared.grid_shape.GridShape.{GridShape}
-use Rattle.floors.specs.Grid.{area}
 use Rattle.floors.specs.GridQuestions.{grid_number, grid_questions}
-use Rattle.floors.specs.GridSound.{Sides, Formed}
-use Rattle.floors.specs.Questions.{Question, first_no, refusal}
+use Rattle.floors.specs.GridSound.{Formed}
+use Rattle.floors.specs.Questions.{first_no, refusal}
 use Rattle.floors.proofs.Asked.{all_yes}
 
 side : (n : ℕ) → (leb 1 n && leb n 64) ≡ true → (1 ≤ n) × (n ≤ 64)

@@ -4,7 +4,7 @@ use Rattle.floors.specs.declared.grid_shape.GridShape.{GridShape}
 use Rattle.floors.specs.Grid.{grid_floor, grid_guesses}
 use Rattle.floors.specs.GridQuestions.{grid_questions}
 use Rattle.floors.specs.Guided.{Guided, guided}
-use Rattle.floors.specs.Listing.{Listed, leg_to, listing}
+use Rattle.floors.specs.Listing.{leg_to, listing}
 use Rattle.floors.specs.Questions.{first_no}
 
 -- Two cells in one row, of bytes 3 and 5; the second is the goal.

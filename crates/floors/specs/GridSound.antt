@@ -1,6 +1,6 @@
 -- What an accepted grid is, and that its floor is then sound.
-use Rattle.std.specs.Prelude.{◌≡◌, ℕ, ◌+◌, ◌-◌, ◌*◌, ◌/◌, ◌%◌, ◌<◌, ◌≤◌, Bool, true, false, cond, List, length, Some, None, Option, ◌==◌, nat_lt, slice_index, slice_index_or, refl}
-use Rattle.std.proofs.Common.{sym, ap, ap₂, subst, ◌∙◌, mul_comm, mul-add, mul-one, mul-zero, mul-le-mul, mul-le-mul_left, arith}
+use Rattle.std.specs.Prelude.{◌≡◌, ℕ, ◌+◌, ◌*◌, ◌/◌, ◌<◌, ◌≤◌, Bool, true, false, cond, List, length, Some, None, Option, ◌==◌, nat_lt, slice_index, slice_index_or, refl}
+use Rattle.std.proofs.Common.{sym, ap, ap₂, subst, ◌∙◌, mul_comm, mul-add, mul-one, mul-zero, mul-le-mul_left, arith}
 use Rattle.std.proofs.lemmas.Nat.{div_below, mod_below, mul-add-lt, div-mul-add, mod-mul-add, mul-le}
 use Rattle.std.proofs.lemmas.Bool.{cond-true, cond-false, cond_both, ltb-true, le-ltb, lt-ltb, eqb-true, eqb-false, ne_eqb}
 use Rattle.floors.specs.declared.leg.Leg.{Leg}
@@ -10,7 +10,7 @@ use Rattle.floors.specs.declared.grid_shape.GridShape.{GridShape}
 use Rattle.floors.specs.declared.grid_shape.Position.{Position}
 use Rattle.floors.specs.Bytes.{least_is, least_within, greatest_within}
 use Rattle.floors.specs.Consistent.{Consistent, consistent_admissible}
-use Rattle.floors.specs.Grid.{area, place_at, position, direction, neighbour, leg_into, leg_count, leg_of, least_nonzero, greatest, apart, distance, to_goal, low_of, hope_of, steps_of, grid_floor, grid_guesses}
+use Rattle.floors.specs.Grid.{area, place_at, position, direction, neighbour, leg_into, leg_count, leg_of, least_nonzero, greatest, apart, distance, to_goal, low_of, grid_floor, grid_guesses}
 use Rattle.floors.specs.Guided.{Limited}
 use Rattle.floors.specs.Sound.{Limits, Outside, Sound, limit}
 

@@ -1,5 +1,5 @@
 -- What a guided floor means.
-use Rattle.std.specs.Prelude.{◌≡◌, ℕ, ◌<◌, ◌≤◌, Bool, true, false, cond, nat_lt}
+use Rattle.std.specs.Prelude.{ℕ, ◌≤◌, Bool, true, false, cond, nat_lt}
 use Rattle.std.proofs.Common.{arith}
 use Rattle.floors.specs.Meaning.{Meaning}
 use Rattle.floors.specs.Sound.{Sound, limit}

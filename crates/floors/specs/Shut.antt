@@ -1,5 +1,5 @@
 -- The shut floor: a floor with a set of places that no leg enters.
-use Rattle.std.specs.Prelude.{ℕ, ◌≤◌, Bool, true, false, cond, List, set, replicate, Some, None, count_by, Option, slice_index_or, slice_set}
+use Rattle.std.specs.Prelude.{ℕ, Bool, true, false, cond, List, replicate, Some, None, count_by, Option, slice_index_or, slice_set}
 use Rattle.floors.specs.declared.leg.Leg.{Leg}
 use Rattle.floors.specs.Meaning.{Meaning, with_legs}
 

@@ -1,10 +1,10 @@
 -- Over a sound floor the shut floor is sound.
-use Rattle.std.specs.Prelude.{◌≡◌, ℕ, ◌≤◌, Bool, true, false, cond, List, Some, None, Option, refl}
+use Rattle.std.specs.Prelude.{◌≡◌, ℕ, Bool, true, false, cond, List, Some, None, Option, refl}
 use Rattle.std.proofs.Common.{ap, le_refl, arith}
 use Rattle.floors.specs.declared.leg.Leg.{Leg}
 use Rattle.floors.specs.Meaning.{Meaning}
 use Rattle.floors.specs.Shut.{contains, unless_shut, shut_floor}
-use Rattle.floors.specs.Sound.{Limits, Outside, Sound}
+use Rattle.floors.specs.Sound.{Sound}
 use Rattle.floors.specs.Transfer.{FloorMap, law_transfers}
 
 -- A leg that is usable above is the same leg below.

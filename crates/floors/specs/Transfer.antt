@@ -1,9 +1,9 @@
 -- Maps between floors carry the law upwards.
 use Rattle.std.specs.Prelude.{◌≡◌, ℕ, ◌+◌, ◌<◌, ◌≤◌, true, List, [], ◌∷◌, map, Some, refl}
-use Rattle.std.proofs.Common.{sym, ap, subst, ◌∙◌, arith}
+use Rattle.std.proofs.Common.{sym, ap, ◌∙◌, arith}
 use Rattle.floors.specs.declared.leg.Leg.{Leg}
 use Rattle.floors.specs.Meaning.{Meaning}
-use Rattle.floors.specs.Route.{Route, last, alone, onward, ToGoal}
+use Rattle.floors.specs.Route.{Route, last, alone, onward}
 use Rattle.floors.specs.Sound.{Admissible}
 
 -- A usable leg from place p that leads to place q at cost c.

@@ -1,27 +1,24 @@
 -- The near set at the end of an advance.
 use Rattle.std.proofs.Common.{◌≡◌, ℕ, ◌+◌, ◌<◌, Bool, true, false, cond, not, ◌&&◌, eqb, List, length, get_or, Some, None, Option, sym, refl, ap, ◌∙◌, subst, ⊎_elim, arith}
 use Rattle.std.proofs.lemmas.Bool.{and_parts, and_from, both_ways, cases_Bool, cases_lt, cases_eq, not_from_false}
-use Rattle.queue.specs.Keys.{cost_at_most, near_at_most}
-use Rattle.queue.specs.declared.entry.CostEntry.{CostEntry}
+use Rattle.queue.specs.Keys.{near_at_most}
 use Rattle.roster.specs.Check.{expected_in}
-use Rattle.roster.specs.Holds.{Holds, LeastExpected}
+use Rattle.roster.specs.Holds.{Holds}
 use Rattle.roster.proofs.Wishes.{expected_at, expected_past}
 use Rattle.roster.proofs.Holding.{holds_same}
 use Rattle.search_model.specs.declared.records.Record.{Record}
 use Rattle.search_model.specs.declared.search.Search.{Search}
 use Rattle.search_model.specs.Choice.{within, is_near}
 use Rattle.search_model.specs.Fields.{RecordLimits}
-use Rattle.search_model.specs.Records.{at, is_open, f_hat}
-use Rattle.search_model.proofs.Heads.{hope_none}
+use Rattle.search_model.specs.Records.{is_open}
 use Rattle.frontier.specs.declared.frontier.Frontier.{Frontier}
 use Rattle.table.specs.declared.node.Node.{Node}
 use Rattle.frontier.specs.Endings.{TrimmingAt, TrimmedAt, Trimmed, Ended, NearWithin}
 use Rattle.frontier.specs.Moves.{Movable, Moved, Rearranged}
-use Rattle.table.specs.Order.{cost_place, near_place_of}
+use Rattle.table.specs.Order.{near_place_of}
 use Rattle.table.specs.Seats.{near_entry, near_note}
 use Rattle.frontier.specs.Frontier.{near_side_wanted, near_side}
-use Rattle.table.specs.Table.{records, hope_wanted, near_wanted, near_entry_of, least_hope}
-use Rattle.frontier.proofs.Firsts.{nothing_open, head_cost, hope_first}
+use Rattle.table.specs.Table.{records, near_wanted, near_entry_of, least_hope}
 use Rattle.frontier.proofs.Putting.{no_node, node_at}
 use Rattle.frontier.proofs.Reading.{kept_at, by_default}
 use Rattle.frontier.proofs.Sides.{rearranged_self}

@@ -2,10 +2,8 @@
 use Rattle.std.proofs.Common.{◌≡◌, ℕ, Bool, true, false, cond, eqb, ltb, leb, List, [], ◌∷◌, length, is_some, Some, None, Option, sym, refl, ap, ◌∙◌, subst, arith}
 use Rattle.std.proofs.lemmas.Bool.{true≢false, eqb-true}
 use Rattle.floors.specs.Guided.{Guided}
-use Rattle.floors.specs.Meaning.{Meaning}
 use Rattle.floors.specs.Questions.{first_no, unless}
 use Rattle.search_model.specs.declared.bound.Bound.{Bound}
-use Rattle.search_model.specs.declared.records.Record.{Record}
 use Rattle.search_model.specs.declared.search.Search.{Search}
 use Rattle.search_model.specs.Advance.{Answer, Barren, Settled, More, Outcome, going}
 use Rattle.search_model.specs.Begin.{first_records, first_search}
@@ -16,9 +14,9 @@ use Rattle.table.specs.Table.{records}
 use Rattle.reading.specs.Trails.{measured, pair_of, written}
 use Rattle.search.specs.Calls.{Told, told, refused, asked, Begun, ReadDone}
 use Rattle.search.specs.Reports.{AdvanceReport, advance_report_of, AdvanceReported}
-use Rattle.search.specs.Questions.{bound_valid, begin_questions, advance_questions, read_questions}
-use Rattle.search.specs.Runs.{State, left_by, AnswerPromise, RoutePromise}
-use Rattle.search.specs.CallRuns.{CallEvent, advanced, read, CallRun, done, by_advance, by_read, ReportPromise, CallsGuaranteed, CallsKept}
+use Rattle.search.specs.Questions.{bound_valid, advance_questions, read_questions}
+use Rattle.search.specs.Runs.{AnswerPromise}
+use Rattle.search.specs.CallRuns.{advanced, read, done, by_advance, by_read, ReportPromise, CallsGuaranteed, CallsKept}
 use Rattle.search.specs.Told.{advanced_as, reported}
 use Rattle.search.specs.declared.running.Running.{Running}
 use Rattle.search.specs.declared.states.Advanced.{Advanced}
@@ -26,7 +24,7 @@ use Rattle.search.specs.declared.states.Barren.{Barren as BarrenSearch}
 use Rattle.search.specs.declared.states.Settled.{Settled as SettledSearch}
 use Rattle.search.specs.declared.states.Report.{Report}
 use Rattle.job.specs.declared.answer.JobAnswer.{JobAnswer}
-use Rattle.job.specs.Floors.{answer_as, Answered, answered, job_outcome, settled_route, FloorJobDone}
+use Rattle.job.specs.Floors.{answer_as, answered, job_outcome, settled_route, FloorJobDone}
 use Rattle.job.specs.Kept.{RouteKept, JobKept}
 use Rattle.job.specs.Questions.{job_questions}
 

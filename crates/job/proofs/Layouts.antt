@@ -1,7 +1,7 @@
 -- A job on a layout, from what the intake and the search promise.
 use Rattle.std.proofs.Common.{◌≡◌, ℕ, true, List, length, is_some, Some, None, Ok, Err, vec_items, Option, Vec, sym, refl, ap, ◌∙◌, subst, ap₂, arith}
 use Rattle.std.specs.declared.alloc.Global.{Global}
-use Rattle.floors.specs.Guided.{Guided, guided}
+use Rattle.floors.specs.Guided.{guided}
 use Rattle.floors.specs.Questions.{first_no, unless}
 use Rattle.layout.specs.declared.fault.LayoutFault.{LayoutFault}
 use Rattle.layout.specs.declared.fault.LayoutFault.TheVariants.{Length, FirstRecord, TooMany, Record, HighGoal, SteepLeg}
@@ -19,16 +19,14 @@ use Rattle.table.specs.declared.node.Node.{Node}
 use Rattle.table.specs.Order.{in_order}
 use Rattle.table.specs.Table.{records}
 use Rattle.reading.specs.Trails.{written}
-use Rattle.search.specs.Calls.{Told, told, refused, asked}
-use Rattle.search.specs.Reports.{AdvanceReport}
+use Rattle.search.specs.Calls.{told, refused, asked}
 use Rattle.search.specs.Faults.{search_number}
 use Rattle.search.specs.declared.fault.SearchFault.{SearchFault}
-use Rattle.job.specs.declared.answer.Job.{Job}
 use Rattle.job.specs.declared.answer.JobAnswer.{JobAnswer}
 use Rattle.job.specs.declared.fault.JobFault.TheVariants.{Layout, Search}
 use Rattle.job.specs.declared.refused.JobRefused.{JobRefused}
 use Rattle.job.specs.Floors.{Answered, answer_as, answered, job_outcome, settled_route, FloorJobDone}
-use Rattle.job.specs.Job.{done, turned_down, JobResult, described, result_on, result_over, job_result, JobDone}
+use Rattle.job.specs.Job.{done, JobResult, described, result_on, result_over, job_result, JobDone}
 use Rattle.job.specs.Kept.{JobKept}
 use Rattle.job.specs.Questions.{job_questions}
 

@@ -1,6 +1,5 @@
 -- What a job on a layout does.
 use Rattle.std.specs.Prelude.{◌≡◌, ℕ, true, List, length, IfOk, IfErr, Some, None, Ok, Err, vec_items, Option, Result, Vec}
-use Rattle.std.specs.Vec as results
 use Rattle.std.specs.declared.alloc.Global.{Global}
 use Rattle.floors.specs.Guided.{Guided, guided}
 use Rattle.floors.specs.Questions.{first_no}

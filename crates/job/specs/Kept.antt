@@ -1,5 +1,5 @@
 -- What a job guarantees.
-use Rattle.std.specs.Prelude.{◌≡◌, ℕ, List, Some, None, Option}
+use Rattle.std.specs.Prelude.{ℕ, List, Some, None, Option}
 use Rattle.floors.specs.Guided.{Guided}
 use Rattle.floors.specs.Meaning.{Meaning}
 use Rattle.search_model.specs.declared.bound.Bound.{Bound}

@@ -1,5 +1,5 @@
 -- Question 3 asked the short way: from the first record that is no place record on, every record is a leg record.
-use Rattle.std.proofs.Common.{◌≡◌, ℕ, zero, suc, ◌+◌, ◌<◌, ◌≤◌, Bool, true, false, not, ◌&&◌, ◌||◌, eqb, ltb, leb, ◌⊎◌, List, Some, None, Option, unwrap_or, sym, refl, ap, ◌∙◌, subst, inl, inr, ⊎_elim, arith}
+use Rattle.std.proofs.Common.{◌≡◌, ℕ, zero, suc, ◌<◌, ◌≤◌, Bool, true, false, not, ◌&&◌, ◌||◌, eqb, ltb, leb, List, Some, None, Option, unwrap_or, sym, refl, ap, ◌∙◌, subst, ⊎_elim, arith}
 use Rattle.std.proofs.lemmas.Bool.{cases_eq, cases_lt, le-leb, lt-leb, eqb-true, ne_eqb, not-true, not-false, or_left, or_right, or_from, false≢true, both_ways, cond-false, le-ltb}
 use Rattle.layout.specs.Layout.{no_place, places, place_tag, leg_tag}
 use Rattle.layout.specs.Lowest.{lowest}

@@ -1,5 +1,5 @@
 -- The number of each fault's question, and the record that it names.
-use Rattle.std.specs.Prelude.{ℕ, Ok, Err, Result}
+use Rattle.std.specs.Prelude.{Ok, Err, Result}
 use Rattle.layout.specs.declared.fault.RecordFault.{RecordFault}
 use Rattle.layout.specs.declared.fault.RecordFault.TheVariants.{Tag, FixedBytes, FirstLeg, Target, Estimate}
 use Rattle.layout.specs.declared.fault.LayoutFault.{LayoutFault}

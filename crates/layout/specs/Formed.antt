@@ -6,7 +6,7 @@ use Rattle.floors.specs.declared.leg.Leg.{Leg}
 use Rattle.floors.specs.Guided.{Limited}
 use Rattle.floors.specs.Sound.{Limits, Outside, Sound, Admissible, limit}
 use Rattle.layout.specs.declared.counts.Counts.{Counts}
-use Rattle.layout.specs.Layout.{first_leg, leg_count, leg_record, leg_of, goal_of, low_of, hope_of, steps_of, floor_under, floor_of, guesses_of}
+use Rattle.layout.specs.Layout.{first_leg, leg_count, leg_record, leg_of, low_of, hope_of, steps_of, floor_under, floor_of, guesses_of}
 use Rattle.layout.specs.Records.{whole, record_at}
 
 -- The counts are within the limits.

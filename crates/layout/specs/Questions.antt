@@ -1,9 +1,9 @@
 -- The questions put to a layout, each as a test that a record fails.
-use Rattle.std.specs.Prelude.{ℕ, zero, suc, ◌+◌, ◌-◌, ◌/◌, ◌%◌, Bool, true, false, cond, not, ◌&&◌, ◌||◌, List, length, Some, None, Option, ◌==◌, nat_le, nat_lt}
+use Rattle.std.specs.Prelude.{ℕ, zero, suc, ◌+◌, ◌-◌, ◌/◌, ◌%◌, Bool, false, cond, not, ◌&&◌, ◌||◌, List, length, Some, None, Option, ◌==◌, nat_le, nat_lt}
 use Rattle.floors.specs.Sound.{limit}
 use Rattle.layout.specs.declared.counts.Counts.{Counts}
-use Rattle.layout.specs.Layout.{place_tag, leg_tag, first_leg, low_of}
-use Rattle.layout.specs.Records.{whole, record_at}
+use Rattle.layout.specs.Layout.{place_tag, leg_tag}
+use Rattle.layout.specs.Records.{record_at}
 
 -- 1: the length is a multiple of 16; it names the number of whole records.
 abbrev pub broken_length : List ℕ → Option ℕ

@@ -1,5 +1,5 @@
 -- What the calls of an indexed queue need and give, from the queue's own call and the notes written after it.
-use Rattle.std.proofs.Common.{◌≡◌, ℕ, ◌+◌, ◌-◌, ◌<◌, ◌≤◌, Bool, List, map, length, get_or, take, sym, ap, ◌∙◌, subst, ⊎_elim, arith, get_or-take}
+use Rattle.std.proofs.Common.{◌≡◌, ℕ, ◌+◌, ◌-◌, ◌<◌, ◌≤◌, Bool, List, map, length, get_or, sym, ap, ◌∙◌, ⊎_elim, arith, get_or-take}
 use Rattle.std.proofs.lemmas.Bool.{cases_lt}
 use Rattle.queue.specs.Calls.{Inserted, RemovedAt, ReplacedAt}
 use Rattle.queue.specs.Entries.{entries, entry_at}

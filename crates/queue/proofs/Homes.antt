@@ -1,5 +1,5 @@
 -- The homes of the entries of a queue: in range, and each entry's own.
-use Rattle.std.proofs.Common.{◌≡◌, ℕ, ◌<◌, ◌≤◌, Bool, true, false, eqb, leb, ◌≢◌, List, map, length, get_or, take, sym, ap, ◌∙◌, subst, ⊎_elim, arith, length-take, get_or-take}
+use Rattle.std.proofs.Common.{◌≡◌, ℕ, ◌<◌, ◌≤◌, Bool, eqb, leb, List, map, length, get_or, sym, ap, ◌∙◌, subst, arith, length-take, get_or-take}
 use Rattle.std.proofs.lemmas.List.{length-map}
 use Rattle.std.proofs.lemmas.Bool.{eqb-true, eq-eqb, ne_eqb, leb-false, lt-leb}
 use Rattle.queue.specs.Entries.{entries, entry_at, Added, Removed, Replaced}

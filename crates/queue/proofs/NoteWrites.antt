@@ -1,11 +1,11 @@
 -- Notes are written one by one along a path.
-use Rattle.std.proofs.Common.{◌≡◌, ℕ, ◌<◌, ◌≢◌, List, map, length, get_or, set, sym, refl, ap, ◌∙◌, ⊎_elim, arith, length-set, get_or-set_other, get_or-set_same}
+use Rattle.std.proofs.Common.{◌≡◌, ℕ, ◌<◌, ◌≢◌, List, length, get_or, set, sym, refl, ap, ◌∙◌, ⊎_elim, arith, length-set, get_or-set_other, get_or-set_same}
 use lib.Seq.{map-set_same}
 use Rattle.std.proofs.lemmas.List.{get_or_default}
 use Rattle.std.proofs.lemmas.Bool.{cases_eq}
 use Rattle.queue.specs.Entries.{entry_at}
 use Rattle.queue.specs.Lens.{Lens, Apart}
-use Rattle.queue.specs.Noting.{NoteRight, OwnHomes, NoteWritten, Noted}
+use Rattle.queue.specs.Noting.{NoteWritten, Noted}
 use Rattle.queue.specs.Path.{OnPath}
 use Rattle.queue.proofs.Paths.{on_path_le}
 

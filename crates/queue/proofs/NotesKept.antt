@@ -4,7 +4,7 @@ use Rattle.queue.specs.Entries.{entries, entry_at}
 use Rattle.queue.specs.Frame.{Frame}
 use Rattle.queue.specs.Lens.{Lens, Apart}
 use Rattle.queue.specs.Notes.{NotesRight, IndexedFrame}
-use Rattle.queue.specs.Noting.{NoteRight, OwnHomes, Noted}
+use Rattle.queue.specs.Noting.{NoteRight, Noted}
 use Rattle.queue.specs.Path.{OnPath}
 use Rattle.queue.proofs.Homes.{Homes, within_slots, own_slots}
 use Rattle.queue.proofs.Parts.{same_part}

@@ -1,5 +1,5 @@
 -- Facts of the path of a slot.
-use Rattle.std.proofs.Common.{◌≡◌, ℕ, zero, suc, ◌+◌, ◌*◌, ◌^◌, ◌<◌, ◌≤◌, ◌⊎◌, refl, subst, inl, inr, pow-suc, arith}
+use Rattle.std.proofs.Common.{◌≡◌, ℕ, zero, suc, ◌+◌, ◌^◌, ◌<◌, ◌≤◌, ◌⊎◌, subst, inl, inr, pow-suc, arith}
 use Rattle.queue.specs.Heap.{parent_slot}
 use Rattle.queue.specs.Path.{OnPath, ancestor}
 use Rattle.queue.specs.Path.OnPath.{here, above}

@@ -3,7 +3,7 @@ use Rattle.std.proofs.Common.{◌≡◌, ℕ, ◌+◌, ◌<◌, ◌≤◌, Bool,
 use Rattle.std.proofs.lemmas.List.{length-map}
 use Rattle.std.proofs.lemmas.List.Sums.{sum_by_more}
 use Rattle.queue.specs.Calls.{Inserted, RemovedAt, ReplacedAt}
-use Rattle.queue.specs.Entries.{entries, entry_at, Added, Removed, Replaced}
+use Rattle.queue.specs.Entries.{entries, entry_at, Replaced}
 use Rattle.queue.specs.Frame.{Frame, SameFrom}
 use Rattle.queue.specs.Heap.{Heap, parent_slot}
 use Rattle.queue.specs.Hole.{Holed, FitsAbove, FitsBelow}
@@ -14,7 +14,7 @@ use Rattle.queue.specs.Path.OnPath.{here}
 use Rattle.queue.specs.Sift.{HoleMoved, Risen, Sunk}
 use Rattle.queue.proofs.Holes.{filled, opened}
 use Rattle.queue.proofs.Paths.{on_path_le}
-use Rattle.queue.proofs.Writes.{written_at, sum_written, frame_none, frame_write}
+use Rattle.queue.proofs.Writes.{written_at, sum_written, frame_write}
 
 module _ {R E : Type 0} (get : R → E) where
   -- the entries of a queue of n + 1 are those of a queue of n and the one in slot n

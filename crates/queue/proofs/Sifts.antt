@@ -1,8 +1,8 @@
 -- The steps of the two sifting loops.
-use Rattle.std.proofs.Common.{◌≡◌, ℕ, ◌+◌, ◌*◌, ◌/◌, ◌<◌, ◌≤◌, Bool, true, false, ◌≢◌, ◌⊎◌, List, length, get_or, set, sum_by, sym, refl, ap, ◌∙◌, subst, ⊎_elim, arith}
-use Rattle.queue.specs.Entries.{entries, entry_at}
+use Rattle.std.proofs.Common.{◌≡◌, ℕ, ◌/◌, ◌<◌, ◌≤◌, Bool, true, false, ◌≢◌, ◌⊎◌, List, length, get_or, set, sym, refl, ap, ◌∙◌, subst, ⊎_elim, arith}
+use Rattle.queue.specs.Entries.{entry_at}
 use Rattle.queue.specs.Heap.{parent_slot}
-use Rattle.queue.specs.Hole.{Holed, FitsAbove, FitsBelow, LeastChild}
+use Rattle.queue.specs.Hole.{Holed, LeastChild}
 use Rattle.queue.specs.Lens.{Lens}
 use Rattle.queue.specs.Order.{Ordered}
 use Rattle.queue.specs.Path.{OnPath}

@@ -1,5 +1,5 @@
 -- Notes: an entry names a home record, and the home notes the slot in which its entry stands.
-use Rattle.std.specs.Prelude.{◌≡◌, ℕ, ◌<◌, ◌≢◌, List, map, length, slice_index_or}
+use Rattle.std.specs.Prelude.{◌≡◌, ℕ, ◌<◌, ◌≢◌, List, length, slice_index_or}
 use Rattle.queue.specs.Entries.{entry_at}
 use Rattle.queue.specs.Path.{OnPath}
 

@@ -1,7 +1,7 @@
 -- Every run of calls over a table keeps the guarantee.
-use Rattle.std.proofs.Common.{◌≡◌, ℕ, ◌<◌, ◌≤◌, Bool, true, false, cond, ◌&&◌, eqb, ltb, leb, List, [], ◌∷◌, ◌++◌, map, length, drop, is_some, Some, None, Option, sym, refl, ap, ◌∙◌, subst, arith}
+use Rattle.std.proofs.Common.{◌≡◌, ℕ, Bool, true, false, cond, ◌&&◌, eqb, ltb, leb, List, ◌∷◌, ◌++◌, length, drop, is_some, Some, None, Option, sym, refl, ap, ◌∙◌, subst, arith}
 use Rattle.std.proofs.lemmas.List.{length-map}
-use Rattle.std.proofs.lemmas.Bool.{eq-eqb, leb-true, ltb-true, and_parts, true≢false}
+use Rattle.std.proofs.lemmas.Bool.{eq-eqb, leb-true, ltb-true, and_parts}
 use Rattle.floors.specs.Guided.{Guided, SoundGuided}
 use Rattle.floors.specs.Meaning.{Meaning}
 use Rattle.floors.specs.Questions.{first_no, unless}
@@ -14,15 +14,15 @@ use Rattle.search_model.specs.Costs.{ValidBound}
 use Rattle.search_model.specs.Guarantee.{AnswerLaw, AdvanceLaw, SettledLaw, ReadLaw, RouteLaw}
 use Rattle.search_model.specs.Read.{Trail, read_route}
 use Rattle.search_model.proofs.Guaranteed.{Standing, standing_law, standing_back, rebound_invariant, after_advance, advance_law, read_law}
-use Rattle.search_model.proofs.Reached.{Reached, ReachedFrom, begin_reaches, advance_reaches}
+use Rattle.search_model.proofs.Reached.{ReachedFrom, begin_reaches, advance_reaches}
 use Rattle.search_model.proofs.Rules.{Ended}
 use Rattle.table.specs.declared.node.Node.{Node}
 use Rattle.table.specs.Order.{in_order}
 use Rattle.table.specs.Table.{records}
 use Rattle.reading.specs.Trails.{pair_of, written}
-use Rattle.search.specs.Calls.{Told, told, refused, asked, Advance, advance_of, Begun, AdvanceDone, ReboundDone, ReadDone}
+use Rattle.search.specs.Calls.{Told, told, refused, asked, Advance, advance_of, AdvanceDone, ReboundDone, ReadDone}
 use Rattle.search.specs.Questions.{bound_valid, begin_questions, advance_questions, rebound_questions, read_questions}
-use Rattle.search.specs.Runs.{State, running, settled, barren, left_by, advanced_to, rebounded_to, Event, advanced, rebound, read, Run, done, by_advance, by_rebound, by_settled_rebound, by_read, AnswerPromise, AdvancePromise, RoutePromise, Guaranteed, Kept, Guarantee}
+use Rattle.search.specs.Runs.{State, running, settled, barren, left_by, advanced_to, rebounded_to, Event, advanced, rebound, read, Run, done, by_advance, by_rebound, by_settled_rebound, by_read, AnswerPromise, AdvancePromise, Guaranteed, Kept, Guarantee}
 
 -- A search that stands where the definition can bring it, over a table in order.
 record Stands (g : Guided) (start : ℕ) (bound : Bound) (total : ℕ) (s : Search) (t : List Node) : Type 0 where

@@ -1,5 +1,5 @@
 -- The turns of an advance over a table, one after another.
-use Rattle.std.proofs.Common.{◌≡◌, ℕ, ◌+◌, ◌-◌, ◌<◌, ◌≤◌, Bool, true, false, cond, ltb, List, length, Some, None, Option, sym, refl, ap, ◌∙◌, subst, add-zero, arith}
+use Rattle.std.proofs.Common.{◌≡◌, ℕ, ◌+◌, ◌-◌, ◌<◌, Bool, true, false, cond, ltb, List, length, Some, None, Option, sym, refl, ap, ◌∙◌, subst, add-zero, arith}
 use Rattle.std.proofs.lemmas.Bool.{ltb-true, ltb-false}
 use Rattle.floors.specs.Guided.{Guided}
 use Rattle.floors.specs.Meaning.{Meaning}
@@ -8,15 +8,15 @@ use Rattle.search_model.specs.declared.records.Record.{Record}
 use Rattle.search_model.specs.declared.search.Search.{Search}
 use Rattle.search_model.specs.Records.{at, f, Open}
 use Rattle.search_model.specs.Choice.{low_place, choice}
-use Rattle.search_model.specs.Expansion.{expanded, counted}
-use Rattle.search_model.specs.Advance.{Outcome, going, stop, low_mark}
+use Rattle.search_model.specs.Expansion.{expanded}
+use Rattle.search_model.specs.Advance.{going, stop, low_mark}
 use Rattle.search_model.proofs.Chosen.{LowMark, low_mark_some, choice_some}
 use Rattle.search_model.proofs.Loops.{Left, left_whole, left_barren, left_settled, left_more, left_expands}
 use Rattle.frontier.specs.declared.choose.Choice.{Choice}
 use Rattle.frontier.specs.declared.frontier.Frontier.{Frontier}
 use Rattle.table.specs.declared.node.Node.{Node}
 use Rattle.table.specs.declared.order.Queued.{Queued}
-use Rattle.frontier.specs.Choose.{Chosen, Choosing, Picks}
+use Rattle.frontier.specs.Choose.{Chosen, Picks}
 use Rattle.frontier.specs.Endings.{Ended}
 use Rattle.frontier.specs.Frontier.{Prepared}
 use Rattle.frontier.specs.Moves.{Rearranged}

@@ -1,5 +1,5 @@
 -- Runs of the calls that are offered, with advances to the end among them, and the guarantee over them.
-use Rattle.std.specs.Prelude.{◌≡◌, ℕ, ◌+◌, ◌<◌, ◌≤◌, List, [], ◌∷◌, Some, Option, ◌≢◌}
+use Rattle.std.specs.Prelude.{◌≡◌, ℕ, ◌+◌, ◌<◌, ◌≤◌, List, [], ◌∷◌, Some, ◌≢◌}
 use Rattle.floors.specs.Guided.{Guided, SoundGuided}
 use Rattle.floors.specs.Meaning.{Meaning}
 use Rattle.floors.specs.Route.{ToGoal}

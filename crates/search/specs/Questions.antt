@@ -1,6 +1,5 @@
 -- The questions of each call of a search, in order.
 use Rattle.std.specs.Prelude.{ℕ, Bool, ◌&&◌, List, [], ◌∷◌, length, is_some, ◌==◌, nat_le, nat_lt}
-use Rattle.floors.specs.Guided.{Guided}
 use Rattle.floors.specs.Meaning.{Meaning}
 use Rattle.floors.specs.Questions.{Question}
 use Rattle.search_model.specs.declared.bound.Bound.{Bound}

@@ -1,6 +1,5 @@
 -- What the answers of the calls tell.
-use Rattle.std.specs.Prelude.{◌≡◌, ℕ, IfErr, Ok, Err, Result}
-use Rattle.std.specs.Vec as results
+use Rattle.std.specs.Prelude.{◌≡◌, IfErr, Ok, Err, Result}
 use Rattle.search_model.specs.declared.search.Search.{Search}
 use Rattle.search_model.specs.Advance.{Answer, Barren, Settled, More}
 use Rattle.search.specs.declared.fault.SearchFault.{SearchFault}

@@ -1,4 +1,3 @@
-use Rattle.std.proofs.Common.{◌≤◌}
 use mir.Facts.{Fits-lt-pow}
 use Rattle.floors.proofs.GridChecks.{checked_formed}
 use Rattle.floors.proofs.grid_new.check.Goals as goal

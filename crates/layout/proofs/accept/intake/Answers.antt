@@ -1,5 +1,4 @@
 use Rattle.std.proofs.Common.{◌≡◌, vec_items, refl, ap, ◌∙◌, subst, ap₂}
-use Rattle.layout.specs.declared.counts.Counts.{Counts}
 use Rattle.layout.specs.Formed.{Formed, Lawful}
 use Rattle.layout.specs.Layout.{counts, floor_of, guesses_of}
 use Rattle.layout.specs.Verdict.{verdict}

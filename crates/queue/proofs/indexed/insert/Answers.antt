@@ -1,6 +1,6 @@
-use Rattle.std.proofs.Common.{ℕ, ◌+◌, ◌-◌, ◌<◌, List, get_or, take, sym, ◌∙◌, subst, inl, inr, arith}
+use Rattle.std.proofs.Common.{◌+◌, List, take, sym, ◌∙◌, subst, inl, inr, arith}
 use Rattle.std.proofs.lemmas.Bool.{cases_eq}
-use Rattle.queue.specs.Calls.{Inserted, RemovedAt, ReplacedAt}
+use Rattle.queue.specs.Calls.{Inserted}
 use Rattle.queue.specs.Entries.{entries}
 use Rattle.queue.specs.Path.OnPath.{here}
 use Rattle.queue.proofs.HomedCalls.{homes_inserted, path_homes}

@@ -1,7 +1,6 @@
-use Rattle.std.proofs.Common.{ℕ, ◌+◌, ◌-◌, ◌<◌, List, get_or, take, sym, subst, arith}
-use Rattle.queue.specs.Calls.{Inserted, RemovedAt, ReplacedAt}
+use Rattle.std.proofs.Common.{ℕ, List, take, sym, subst, arith}
+use Rattle.queue.specs.Calls.{ReplacedAt}
 use Rattle.queue.specs.Entries.{entries}
-use Rattle.queue.specs.Path.OnPath.{here}
 use Rattle.queue.proofs.HomedCalls.{slot_used, homes_replaced_at, path_homes}
 use Rattle.queue.proofs.NotesKept.{indexed_frame, notes_kept}
 use Rattle.queue.proofs.indexed.replace_noted.Goals as goal

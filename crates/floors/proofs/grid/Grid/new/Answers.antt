@@ -1,4 +1,4 @@
-use Rattle.std.proofs.Common.{sym, subst}
+use Rattle.std.proofs.Common.{subst}
 use Rattle.floors.specs.GridSound.{Formed}
 use Rattle.floors.proofs.grid.Grid.new.Goals as goal
 
