@@ -88,6 +88,6 @@ fn off_the_grid(rt: HostRuntime) -> Result<(), Fail> {
 #[test]
 fn cells_again(rt: HostRuntime) -> Result<(), Fail> {
     let grid = grid(rt.alloc(), 3, 3, &NINE, 0)?;
-    assert!(rt; grid.into_cells().as_slice() == &NINE);
+    assert!(rt; grid.into_cells().as_slice() == NINE.as_slice());
     Ok(())
 }

@@ -8,14 +8,14 @@ use Rattle.queue_tests.specs.declared.Node.{Node}
 use Rattle.queue_tests.proofs.tests.homes_note_their_slots.Goals as goal
 
 pub insert-requires : goal.insert-requires
-insert-requires c = record {
+insert-requires g c = record {
   room = (omega arith, omega arith);
   notes = λ d r i l. absurd (omega arith);
   home = (omega arith, λ d i l e. absurd (omega arith));
 }
 
 pub insert-requires-2 : goal.insert-requires-2
-insert-requires-2 c = record {
+insert-requires-2 g c = record {
   room = (omega arith, omega arith);
   notes = c.insert.ensures.notes;
   home = (
@@ -31,14 +31,14 @@ third_present xs ys e l l' A N three =
     subst (λ (h : ℕ). Present place_of low_of low_slot_of 2 ys h) three (present_added place_of low_of low_slot_of 1 2 xs ys l l' e A N)
 
 pub replace-requires : goal.replace-requires
-replace-requires c = record {
+replace-requires g c = record {
   room = (omega arith, omega arith);
   notes = c.insert-2.ensures.notes;
   home = (third_present c.insert.new.slots c.insert-2.new.slots c.cost-2.result (omega arith) (omega arith) c.insert-2.ensures.queue.change c.insert-2.ensures.notes c.cost-2.ensures, c.cost-3.ensures);
 }
 
 pub remove-requires : goal.remove-requires
-remove-requires c =
+remove-requires g c =
     let P = third_present c.insert.new.slots c.insert-2.new.slots c.cost-2.result (omega arith) (omega arith) c.insert-2.ensures.queue.change c.insert-2.ensures.notes c.cost-2.ensures in
     let r = c.node.result in
     let d = c.cost.result in
