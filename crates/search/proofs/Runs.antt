@@ -1,5 +1,5 @@
 -- A run without advances to the end is a run of the calls that are offered, so it keeps the guarantee.
-use Rattle.std.proofs.Common.{◌≡◌, ℕ, List, [], ◌∷◌, map, Some, None, Option, sym, refl, ap, ◌∙◌, subst}
+use Rattle.std.proofs.Common.{◌≡◌, ℕ, List, [], ◌∷◌, map, Some, None, Option, refl, ap, ◌∙◌, subst}
 use Rattle.floors.specs.Guided.{Guided}
 use Rattle.floors.specs.Meaning.{Meaning}
 use Rattle.floors.specs.Questions.{first_no}
@@ -13,7 +13,7 @@ use Rattle.search.specs.CallRuns as calls
 use Rattle.search.specs.CallRuns.{CallEvent, CallRun, CallsGuaranteed, reported_to}
 use Rattle.search.specs.Questions.{advance_questions}
 use Rattle.search.specs.Reports.{AdvanceReport, AdvanceReported}
-use Rattle.search.specs.Runs.{State, advanced_to, Event, advanced, rebound, read, Run, done, by_advance, by_rebound, by_settled_rebound, by_read, AdvancePromise, Guaranteed, Guarantee, Kept}
+use Rattle.search.specs.Runs.{State, advanced_to, Event, advanced, rebound, read, Run, done, by_advance, by_rebound, by_settled_rebound, by_read, Guaranteed, Guarantee, Kept}
 use Rattle.search.proofs.CallRuns as offered
 
 -- What an advance tells, with the total in its report.
@@ -49,7 +49,7 @@ call_run : {g : Guided} {z y : State} {es : List Event} → Run g z es y → Cal
 call_run done = calls.done
 call_run {g = g} {y = y} (by_advance {es = es} budget s t a t' did run) =
     calls.by_advance budget s t (told_report a) t' (advance_reported g budget s t a t' did)
-        (subst (λ z. CallRun g z (map event es) y) (same_state a s t') (call_run run))
+    (subst (λ z. CallRun g z (map event es) y) (same_state a s t') (call_run run))
 call_run (by_rebound bound s t a t' did run) = calls.by_rebound bound s t a t' did (call_run run)
 call_run (by_settled_rebound bound n s t a t' did run) = calls.by_settled_rebound bound n s t a t' did (call_run run)
 call_run (by_read n s t list a list' did run) = calls.by_read n s t list a list' did (call_run run)
@@ -57,8 +57,7 @@ call_run (by_read n s t list a list' did run) = calls.by_read n s t list a list'
 guaranteed : (m : Meaning) (start : ℕ) (bound : Bound) (total : ℕ) (es : List Event) → CallsGuaranteed m start bound total (map event es) → Guaranteed m start bound total es
 guaranteed m start bound total [] h = tt
 guaranteed m start bound total (advanced budget (told a) ∷ es) h =
-    let p = h.0 in
-    (
+    let p = h.0 in (
       record { answered = p.answered; marked = p.marked; mark_below = p.mark_below; affordable = p.affordable; exact = p.exact; few = p.few; uncapped = p.uncapped },
       guaranteed m start bound a.search_after.total es h.1,
     )
