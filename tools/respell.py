@@ -6,14 +6,13 @@ usage: python3 tools/respell.py        once, at the top of the repository, after
 A name that a file of specs/ or proofs/ declares (a definition, a lemma, a field, a constructor, a local name) loses its dashes and
 gets underscores, and so does a ghost member in mixed case. In the proof of a function the parts of a generated name that come from
 the source keep the source's spelling. Names of the library, functions of src/, strings, inputs and outputs stay. Names that fall
-together are printed, and nothing is written.
+together, but for those of TOGETHER, are printed, and nothing is written.
 """
 
 import collections
 import glob
 import os
 import re
-import sys
 
 TOKEN = re.compile(r"[^\W\d][\w'◌≡≤≢<>∷∙+*/&|^%-]*")
 DECLARED = re.compile(r"^\s*(?:let )?(?:pub |abbrev |unfoldable |record |data )*([^\W\d][\w'-]*)(?: (?:\{[^}]*\}|\([^)]*\)))* :(?!=)", re.M)
@@ -21,6 +20,8 @@ LET = re.compile(r"\blet ([^\W\d][\w'-]*)\b|[({λ]\s*((?:[^\W\d][\w'-]*\s+)*[^\W
 IMPORT = re.compile(r"use (?!Rattle\.(?:%s)\.)[\w.'+-]*\.\{([^}]*)\}")
 GHOST = re.compile(r"^\s*ghost ([a-z]\w*[A-Z]\w*)\b", re.M)
 ALIAS = re.compile(r"\bas ([^\W\d][\w'-]*-[\w'-]*)")
+# a lemma's parameter and the ghost member that it stands for; a definition and a field of a struct above it
+TOGETHER = {"with_entry", "with_note", "note_of", "note_limit", "low_mark"}
 # words that Rattle puts into generated names
 MADE = ["in-ok", "in-err", "in-default", "overflow-add", "overflow-sub", "overflow-mul", "overflow-cast", "overflow-step", "type-inv", "offset-bounds", "slice-bounds", "nonzero-div", "nonzero-rem", "from-residual"]
 
@@ -96,14 +97,15 @@ def main():
         if f.endswith(".antt"):
             for m in TOKEN.finditer(open(f, encoding="utf-8").read()):
                 taken[m[0]].add(f)
-    together = [(a, b) for a, b in sorted(names.items()) if "-" in a and any(not is_answer(f) for f in taken[b]) and b not in ("low_mark",)]
+    together = [(a, b) for a, b in sorted(names.items()) if "-" in a and any(not is_answer(f) for f in taken[b])]
     back = collections.defaultdict(set)
     for a, b in names.items():
         back[b].add(a)
     together += [(a, b) for b, xs in back.items() if len(xs) > 1 for a in xs]
+    together = [(a, b) for a, b in together if b not in TOGETHER]
     for a, b in together:
         print(f"falls together: {a} and {b}: {sorted(taken[b])[:3]}")
-    if together and "--anyway" not in sys.argv:
+    if together:
         return 1
     words = sorted(source_words(files), key=len, reverse=True)
 

@@ -1,4 +1,5 @@
--- Runs of the calls that are offered, with advances to the end among them, and the guarantee over them.
+-- Runs of the calls that are offered, with advances to the end among them, and the guarantee over them: what begin promises. Runs has
+-- the same without advances to the end.
 use Rattle.std.specs.Prelude.{◌≡◌, ℕ, ◌+◌, ◌<◌, ◌≤◌, List, [], ◌∷◌, Some, ◌≢◌}
 use Rattle.floors.specs.Guided.{Guided, SoundGuided}
 use Rattle.floors.specs.Meaning.{Meaning}

@@ -1,4 +1,5 @@
--- What an advance reports, and an advance to the end.
+-- What an advance reports, and an advance to the end. The contracts of the calls use these; what Calls says of an advance leaves
+-- out the total of the report, and is what the runs of Runs are made of.
 use Rattle.std.specs.Prelude.{◌≡◌, ℕ, true, false, List, is_some, Option, refl}
 use Rattle.floors.specs.Guided.{Guided}
 use Rattle.floors.specs.Questions.{first_no, unless}
