@@ -29,11 +29,11 @@ guided m g = record { floor = m; hope = on_floor m g.hope; steps = on_floor m g.
 
 -- What a floor that offers guesses says of itself, as the members of its bound give it.
 abbrev pub described : {F : Type 0} → record {
-    meaning : F → Meaning;
-    sound : (f : F) → Sound (meaning f);
-    guesses : F → Guesses;
-    limited : (f : F) → Limited (guesses f);
-  } → F → Guided
+  meaning : F → Meaning;
+  sound : (f : F) → Sound (meaning f);
+  guesses : F → Guesses;
+  limited : (f : F) → Limited (guesses f);
+} → F → Guided
 described says f = guided (says.meaning f) (says.guesses f)
 
 -- A sound guided floor: its floor is sound and its guesses are within the limit.
