@@ -1,5 +1,6 @@
 // A grid's shape once the questions put to it are answered yes.
-ghost use Rattle.std.specs.Prelude.{◌≡◌, ◌<◌, ◌≤◌, length, Some, None, OnOk, IfOk, IfSome, nat_lt, if◌then◌else◌};
+ghost use Rattle.std.specs.Prelude.{◌≡◌, ◌<◌, ◌≤◌, length, OnOk, IfOk, IfSome, nat_lt};
+ghost use Rattle.std.specs.Bool.{then_some};
 ghost use Rattle.floors.specs.Grid.{area, place_at, position, neighbour as neighbour_of, to_goal};
 ghost use Rattle.floors.specs.GridQuestions.{grid_number, grid_questions};
 ghost use Rattle.floors.specs.GridSound.{Sides, OnGrid, Formed};
@@ -56,7 +57,7 @@ impl Frame {
 
     // The row and column of the place, if it is on the grid.
     pub fn position(self, place: u32) -> Option<Position>
-        ensures is { result ≡ (if nat_lt place (area self.shape) then Some (position self.shape place) else None) }
+        ensures is { result ≡ then_some (nat_lt place (area self.shape)) (position self.shape place) }
         ensures inside { IfSome result (OnGrid self.shape) }
     {
         (place < self.places()).then(|| Position {
@@ -67,7 +68,7 @@ impl Frame {
 
     // The distance from the place to the goal, if it is on the grid.
     pub fn to_goal(self, place: u32) -> Option<u32>
-        ensures is { result ≡ (if nat_lt place (area self.shape) then Some (to_goal self.shape place) else None) }
+        ensures is { result ≡ then_some (nat_lt place (area self.shape)) (to_goal self.shape place) }
         ensures near { IfSome result (λ distance. distance ≤ 126) }
     {
         let at = self.position(place)?;

@@ -1,5 +1,6 @@
 // The shape of a grid as it is asked for, its places as rows and columns, and the ways between them.
-ghost use Rattle.std.specs.Prelude.{◌≡◌, Some, None, nat_lt, if◌then◌else◌};
+ghost use Rattle.std.specs.Prelude.{◌≡◌, nat_lt};
+ghost use Rattle.std.specs.Bool.{then_some};
 ghost use Rattle.floors.specs.Grid.{direction};
 
 // The sides of a grid and its goal.
@@ -27,7 +28,7 @@ pub enum Direction {
 impl Direction {
     // The way that the leg of that number goes, if there is one.
     pub fn of(number: u32) -> Option<Direction>
-        ensures { result ≡ (if nat_lt number 4 then Some (direction number) else None) }
+        ensures { result ≡ then_some (nat_lt number 4) (direction number) }
     {
         match number {
             0 => Some(Direction::North),
