@@ -1,49 +1,29 @@
 // A set of at most 64 places.
-ghost use Rattle.std.specs.Prelude.{◌≡◌, ◌+◌, ◌<◌, ◌≤◌, true, false, length};
-ghost use Rattle.floors.specs.Shut.{no_places, contains as contains_place, members, with_place, without_place};
+ghost use Rattle.std.specs.Prelude.{List, Bool, ◌≡◌, ◌<◌, ◌≤◌, IsTrue, slice_set};
+ghost use Rattle.floors.specs.Shut.{no_places, contains as contains_place, members};
+
+use std::marker::Model;
+use std::mem::replace;
 
 // A flag for each place that a floor can have, and how many are set.
 #[derive(Drop)]
 pub struct ShutSet {
     flags: [bool; 4096],
     count: u32,
-    ghost counted: { count ≡ members flags },
-    ghost few: { count ≤ 64 },
 }
 
-// Whether the place's flag is set.
-fn is_set(flags: &[bool], place: u32) -> bool
-    ensures { result ≡ contains_place flags.now place }
-{
-    if (place as usize) < flags.len() {
-        flags[place as usize]
-    } else {
-        false
-    }
-}
+impl Model for ShutSet {
+    ghost Value = { List Bool };
 
-// Sets a flag that is not set: one more member.
-fn raise(flags: &mut [bool], place: u32)
-    requires { (place < length flags.old) × (contains_place flags.old place ≡ false) }
-    ensures flags { flags.new ≡ with_place flags.old place }
-    ensures more { members flags.new ≡ members flags.old + 1 }
-{
-    flags[place as usize] = true;
-}
+    ghost view = { λ set. set.flags };
 
-// Clears a flag that is set: one member less.
-fn clear(flags: &mut [bool], place: u32)
-    requires { (place < length flags.old) × (contains_place flags.old place ≡ true) }
-    ensures flags { flags.new ≡ without_place flags.old place }
-    ensures less { members flags.new + 1 ≡ members flags.old }
-{
-    flags[place as usize] = false;
+    ghost invariant = { λ set. (set.count ≡ members set.flags) × (set.count ≤ 64) };
 }
 
 impl ShutSet {
     // The empty set.
     pub fn new() -> ShutSet
-        ensures { result.flags ≡ no_places }
+        ensures { result ≡ no_places }
     {
         ShutSet {
             flags: [false; 4096],
@@ -53,33 +33,25 @@ impl ShutSet {
 
     // How many places are in the set.
     pub fn count(&self) -> u32
-        ensures { result ≡ members self.now.flags }
+        ensures { result ≡ members self.now }
     {
         self.count
     }
 
     // Whether the place is in the set.
     pub fn contains(&self, place: u32) -> bool
-        ensures { result ≡ contains_place self.now.flags place }
+        ensures { result ≡ contains_place self.now place }
     {
-        is_set(&self.flags, place)
+        self.flags.get(place as usize).copied().unwrap_or(false)
     }
 
-    // Adds a place to a set that has room and lacks it.
-    pub fn insert(&mut self, place: u32)
-        requires { (place < 4096) × ((contains_place self.old.flags place ≡ false) × (members self.old.flags < 64)) }
-        ensures { self.new.flags ≡ with_place self.old.flags place }
+    // Puts the place into a set that has room for it, or takes it out.
+    pub fn set(&mut self, place: u32, inside: bool)
+        requires place { place < 4096 }
+        requires room { IsTrue inside → members self.old < 64 }
+        ensures { self.new ≡ slice_set self.old place inside }
     {
-        raise(&mut self.flags, place);
-        self.count += 1;
-    }
-
-    // Takes a place out of the set.
-    pub fn remove(&mut self, place: u32)
-        requires { (place < 4096) × (contains_place self.old.flags place ≡ true) }
-        ensures { self.new.flags ≡ without_place self.old.flags place }
-    {
-        clear(&mut self.flags, place);
-        self.count -= 1;
+        let was = replace(&mut self.flags[place as usize], inside);
+        self.count = self.count + u32::from(inside) - u32::from(was);
     }
 }
