@@ -47,13 +47,6 @@ pub fn raw_record(layout: &[u8], number: usize) -> RawRecord
     if number < layout.len() / 16 {
         part(layout, 16 * number)
     } else {
-        RawRecord {
-            tag: 0,
-            flag: 0,
-            half: 0,
-            word1: 0,
-            word2: 0,
-            word3: 0,
-        }
+        RawRecord::default()
     }
 }
