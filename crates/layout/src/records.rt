@@ -9,7 +9,7 @@ use crate::divided::Divided;
 use crate::fault::RecordFault;
 use crate::question::put;
 use crate::raw::raw_record;
-use crate::record::{LEG_TAG, PLACE_TAG};
+use crate::record::{LEG_TAG, PLACE_TAG, RECORD_BYTES};
 
 const LIMIT: u32 = 268_365_825;
 
@@ -79,7 +79,7 @@ impl Divided<'_> {
     pub fn read_records(&self) -> Result<(), RecordFault>
         ensures { says record_verdict result ≡ each_record self.now.layout.now self.now.counts }
     {
-        let whole = self.layout.len() / 16;
+        let whole = self.layout.len() / RECORD_BYTES;
         let places = self.counts.places as usize;
         put(
             |index| self.wrong_fixed(index),

@@ -11,17 +11,17 @@ use crate::counts::{Counts, MOST_LEGS, MOST_PLACES};
 use crate::fault::{LayoutFault, RecordFault};
 use crate::question::{lowest_failing, put};
 use crate::raw::raw_record;
-use crate::record::PLACE_TAG;
+use crate::record::{PLACE_TAG, RECORD_BYTES};
 use crate::records::{no_place, wrong_tag};
 
 // Question 1.
 fn check_length(layout: &[u8]) -> Result<(), LayoutFault>
     ensures { says layout_verdict result ≡ asked 1 (broken_length layout.now) }
 {
-    if layout.len() % 16 == 0 {
+    if layout.len() % RECORD_BYTES == 0 {
         Ok(())
     } else {
-        Err(LayoutFault::Length(layout.len() / 16))
+        Err(LayoutFault::Length(layout.len() / RECORD_BYTES))
     }
 }
 
@@ -41,7 +41,7 @@ fn count_places(layout: &[u8]) -> usize
     ensures count { result ≡ place_count layout.now }
     ensures within { result ≤ whole_records layout.now }
 {
-    let whole = layout.len() / 16;
+    let whole = layout.len() / RECORD_BYTES;
     lowest_failing(|index| no_place(layout, index), whole).unwrap_or(whole)
 }
 
@@ -52,7 +52,7 @@ fn check_tags(layout: &[u8], places: usize) -> Result<(), RecordFault>
 {
     put(
         |index| wrong_tag(layout, places, index),
-        layout.len() / 16,
+        layout.len() / RECORD_BYTES,
         RecordFault::Tag,
     )
 }
@@ -86,5 +86,5 @@ pub fn check_shape(layout: &[u8]) -> Result<Counts, LayoutFault>
     check_first(layout)?;
     let places = count_places(layout);
     check_tags(layout, places)?;
-    check_counts(layout.len() / 16, places)
+    check_counts(layout.len() / RECORD_BYTES, places)
 }
