@@ -124,7 +124,14 @@ module _ (bs : List ℕ) (shaped : shape bs ≡ accepted) (read : each_record bs
       (le-leb (places bs) (places bs + j) (omega arith)))
 
   formed : ((i : ℕ) → get_or bs i 0 < 256) → Formed bs (counts bs)
-  formed bytes = ((some_place bs shaped, (few_counts bs shaped).0, (few_counts bs shaped).1), (first_within, target_within, half_small bs bytes))
+  formed bytes = record {
+    some_place = some_place bs shaped;
+    few_places = (few_counts bs shaped).0;
+    few_legs = (few_counts bs shaped).1;
+    firsts = first_within;
+    targets = target_within;
+    costs = half_small bs bytes;
+  }
 
   -- the estimates of a place are within the limit
   estimates : (p : ℕ) → p < places bs
@@ -161,12 +168,12 @@ module _ (bs : List ℕ) (shaped : shape bs ≡ accepted) (read : each_record bs
         rw (low_is p place, low_is l.target leads) (ltb-false _ _ flat)
 
     lawful : Lawful bs (counts bs)
-    lawful = (
-      (λ p. cond_both (ltb p (places bs)) _ _ (λ x. x ≤ limit) (λ e. (estimates p (ltb-true _ _ e)).0) (λ e. omega arith)),
-      (λ p. cond_both (ltb p (places bs)) _ _ (λ x. x ≤ limit) (λ e. (estimates p (ltb-true _ _ e)).1) (λ e. omega arith)),
-      (λ p. cond_both (ltb p (places bs)) _ _ (λ x. x ≤ limit) (λ e. (estimates p (ltb-true _ _ e)).2) (λ e. omega arith)),
-      consistent_admissible (floor_of bs (counts bs)) (record { goals = goal_zero; legs = leg_gentle }),
-    )
+    lawful = record {
+      lows = λ p. cond_both (ltb p (places bs)) _ _ (λ x. x ≤ limit) (λ e. (estimates p (ltb-true _ _ e)).0) (λ e. omega arith);
+      hopes = λ p. cond_both (ltb p (places bs)) _ _ (λ x. x ≤ limit) (λ e. (estimates p (ltb-true _ _ e)).1) (λ e. omega arith);
+      step_counts = λ p. cond_both (ltb p (places bs)) _ _ (λ x. x ≤ limit) (λ e. (estimates p (ltb-true _ _ e)).2) (λ e. omega arith);
+      admissible = consistent_admissible (floor_of bs (counts bs)) (record { goals = goal_zero; legs = leg_gentle });
+    }
 
 -- The same of counts that were found, as the intake meets them.
 pub read_fine : (bs : List ℕ) (n : Counts) → ((i : ℕ) → get_or bs i 0 < 256) → n ≡ counts bs

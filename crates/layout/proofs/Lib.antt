@@ -4,3 +4,4 @@ pub mod Tags
 pub mod Owners
 pub mod Accepted
 pub mod Checks
+pub mod Chunks

@@ -1,5 +1,5 @@
 -- Laws of the lowest number that fails a test.
-use Rattle.std.proofs.Common.{◌≡◌, ℕ, zero, suc, ◌+◌, ◌<◌, Bool, true, false, cond, ◌⊎◌, Some, None, Option, sym, refl, ◌∙◌, subst, inl, inr, ⊎_elim, add-one, arith}
+use Rattle.std.proofs.Common.{◌≡◌, ℕ, zero, suc, ◌+◌, ◌<◌, ◌≤◌, MatchOption, Bool, true, false, cond, ◌⊎◌, Some, None, Option, sym, refl, ◌∙◌, subst, inl, inr, ⊎_elim, add-one, arith}
 use Rattle.std.proofs.lemmas.Bool.{cases_eq}
 use Rattle.layout.specs.Lowest.{lowest, IsLowest}
 
@@ -73,3 +73,10 @@ lowest_some fails (suc n) r e = ⊎_elim
 pub is_lowest : (fails : ℕ → Bool) (n : ℕ) (o : Option ℕ) → IsLowest fails n o → o ≡ lowest fails n
 is_lowest fails n None pass = sym (lowest_all fails n pass)
 is_lowest fails n (Some i) (within, failing, pass) = sym (lowest_found fails i n (lowest_all fails i pass) failing within)
+
+-- What a search over a range finds is the lowest.
+pub first_is_lowest : (fails : ℕ → Bool) (n : ℕ) (r : Option ℕ)
+    → MatchOption r ((k : ℕ) → 0 ≤ k → k < n → fails k ≡ false) (λ i. (0 ≤ i) × (i < n) × (fails i ≡ true) × ((k : ℕ) → 0 ≤ k → k < i → fails k ≡ false))
+    → r ≡ lowest fails n
+first_is_lowest fails n None all = is_lowest fails n None (λ k h. all k (omega arith) h)
+first_is_lowest fails n (Some i) found = is_lowest fails n (Some i) (found.1, found.2, λ k h. found.3 k (omega arith) h)

@@ -116,7 +116,7 @@ module _ (bs : List ℕ) (n : Counts) (ordered : Ordered bs n) where
       (cases_lt r n.places)
 
   -- the lowest steep record is that of the first steep leg, by place and then by number
-  lowest_steep : (at : Option (ℕ × ℕ)) → FirstSteep (floor_under (λ _. 0) bs n) (λ q. (record_at bs q).word1) at
+  pub lowest_steep : (at : Option (ℕ × ℕ)) → FirstSteep (floor_under (λ _. 0) bs n) (λ q. (record_at bs q).word1) at
       → lowest (steep bs n) (whole bs) ≡ option_map (λ (x : ℕ × ℕ). leg_record bs n x.0 x.1) at
   lowest_steep None gentle = lowest_all (steep bs n) (whole bs) (λ r within.
       gentle_before n.places 0 (omega (arith, ordered.rises n.places))
@@ -129,13 +129,3 @@ module _ (bs : List ℕ) (n : Counts) (ordered : Ordered bs n) where
       lowest_found (steep bs n) (leg_record bs n p k) (whole bs)
       (lowest_all (steep bs n) (leg_record bs n p k) (λ r below. gentle_before p k (omega arith) first.3 first.4 r below (omega arith)))
       (steep_is p k place first.1 ∙ first.2) within
-
--- The same, asked of a draft of the layout.
-pub lowest_drafted : (bs bs' : List ℕ) (n n' : Counts) → Ordered bs n → bs' ≡ bs → n' ≡ n → (at answer : Option (ℕ × ℕ)) → answer ≡ at
-    → FirstSteep (floor_under (λ _. 0) bs' n') (λ q. (record_at bs q).word1) answer
-    → option_map (λ (x : ℕ × ℕ). leg_record bs n x.0 x.1) at ≡ lowest (steep bs n) (whole bs)
-lowest_drafted bs bs' n n' ordered same counted at answer is first =
-    sym (lowest_steep bs n ordered at
-    (subst (λ x. FirstSteep (floor_under (λ _. 0) bs n) (λ q. (record_at bs q).word1) x) is
-    (subst (λ x. FirstSteep (floor_under (λ _. 0) bs x) (λ q. (record_at bs q).word1) answer) counted
-    (subst (λ x. FirstSteep (floor_under (λ _. 0) x n') (λ q. (record_at bs q).word1) answer) same first))))

@@ -1,9 +1,9 @@
 -- Question 3 asked the short way: from the first record that is no place record on, every record is a leg record.
-use Rattle.std.proofs.Common.{◌≡◌, ℕ, zero, suc, ◌<◌, ◌≤◌, Bool, true, false, not, ◌&&◌, ◌||◌, eqb, ltb, leb, List, Some, None, Option, unwrap_or, sym, refl, ap, ◌∙◌, subst, ⊎_elim, arith}
+use Rattle.std.proofs.Common.{◌≡◌, ℕ, zero, suc, ◌<◌, ◌≤◌, Bool, true, false, not, ◌&&◌, ◌||◌, eqb, ltb, List, Some, None, Option, unwrap_or, sym, refl, ap, ◌∙◌, subst, ⊎_elim, arith}
 use Rattle.std.proofs.lemmas.Bool.{cases_eq, cases_lt, le-leb, lt-leb, eqb-true, ne_eqb, not-true, not-false, or_left, or_right, or_from, false≢true, both_ways, cond-false, le-ltb}
 use Rattle.layout.specs.Layout.{no_place, places, place_tag, leg_tag}
 use Rattle.layout.specs.Lowest.{lowest}
-use Rattle.layout.specs.Questions.{wrong_tag, leg_before}
+use Rattle.layout.specs.Questions.{wrong_tag, leg_before, no_leg_behind}
 use Rattle.layout.specs.declared.record.RawRecord.{RawRecord}
 use Rattle.layout.specs.Records.{whole, part_at, zeros, record_at}
 use Rattle.layout.proofs.Lowests.{lowest_none, lowest_some, lowest_same}
@@ -31,10 +31,6 @@ behind : (place leg : Bool) → (place ≡ true → leg ≡ false) → (not (pla
 behind true leg apart = rw (apart refl)
 behind false true apart = refl
 behind false false apart = refl
-
--- the short test, of a layout whose first place records are counted
-abbrev short : List ℕ → ℕ → ℕ → Bool
-short bs first r = leb first r && not (eqb (record_at bs r).tag leg_tag)
 
 module _ (bs : List ℕ) where
   pub places_within : places bs ≤ whole bs
@@ -73,7 +69,7 @@ module _ (bs : List ℕ) where
       (λ other. or_left _ _ (one_before j i (omega arith) e))
       (cases_eq j i)
 
-  agree : (i : ℕ) → i < whole bs → lowest (wrong_tag bs) i ≡ None → wrong_tag bs i ≡ short bs (places bs) i
+  agree : (i : ℕ) → i < whole bs → lowest (wrong_tag bs) i ≡ None → wrong_tag bs i ≡ no_leg_behind bs (places bs) i
   agree i within before = ⊎_elim
       (λ (low : i < places bs). rw (is_place i low, none_before i (omega arith), lt-leb (places bs) i low))
       (λ (high : places bs ≤ i). ⊎_elim
@@ -87,6 +83,6 @@ module _ (bs : List ℕ) where
       (cases_eq i (places bs)))
       (cases_lt i (places bs))
 
-  pub short_tags : (first : ℕ) → first ≡ places bs → lowest (short bs first) (whole bs) ≡ lowest (wrong_tag bs) (whole bs)
+  pub short_tags : (first : ℕ) → first ≡ places bs → lowest (no_leg_behind bs first) (whole bs) ≡ lowest (wrong_tag bs) (whole bs)
   short_tags first e =
-      ap (λ p. lowest (short bs p) (whole bs)) e ∙ sym (lowest_same (wrong_tag bs) (short bs (places bs)) (whole bs) agree)
+      ap (λ p. lowest (no_leg_behind bs p) (whole bs)) e ∙ sym (lowest_same (wrong_tag bs) (no_leg_behind bs (places bs)) (whole bs) agree)

@@ -1,5 +1,6 @@
 -- Records as bytes.
 use Rattle.std.specs.Prelude.{ℕ, ◌/◌, ◌%◌, List, [], ◌∷◌, ◌++◌}
+use Rattle.layout.specs.declared.record.RawRecord.{RawRecord}
 
 -- A number in two bytes and in four, lowest byte first.
 abbrev half : ℕ → List ℕ
@@ -7,6 +8,10 @@ half n = n % 256 ∷ n / 256 % 256 ∷ []
 
 abbrev word : ℕ → List ℕ
 word n = n % 256 ∷ n / 256 % 256 ∷ n / 65536 % 256 ∷ n / 16777216 % 256 ∷ []
+
+-- A record by its parts.
+abbrev pub record_bytes : RawRecord → List ℕ
+record_bytes r = r.tag ∷ r.flag ∷ half r.half ++ (word r.word1 ++ (word r.word2 ++ word r.word3))
 
 abbrev pub place_bytes : (goal first low hope steps : ℕ) → List ℕ
 place_bytes goal first low hope steps = 83 ∷ goal ∷ half first ++ (word low ++ (word hope ++ word steps))

@@ -1,5 +1,5 @@
 -- The number of each fault's question, and the record that it names.
-use Rattle.std.specs.Prelude.{Ok, Err, Result}
+use Rattle.std.specs.Prelude.{◌≡◌, ℕ, Ok, Err, Result}
 use Rattle.layout.specs.declared.fault.RecordFault.{RecordFault}
 use Rattle.layout.specs.declared.fault.RecordFault.TheVariants.{Tag, FixedBytes, FirstLeg, Target, Estimate}
 use Rattle.layout.specs.declared.fault.LayoutFault.{LayoutFault}
@@ -25,3 +25,7 @@ layout_verdict (SteepLeg r) = refused 9 r
 abbrev pub says : {A E : Type 0} → (E → Verdict) → Result A E → Verdict
 says of-fault (Ok x) = accepted
 says of-fault (Err fault) = of-fault fault
+
+-- Each fault that is named for a record has the question's number and that record.
+abbrev pub Names : (ℕ → RecordFault → Type 0) → ℕ → Type 0
+Names gives number = (r : ℕ) (fault : RecordFault) → gives r fault → record_verdict fault ≡ refused number r

@@ -9,19 +9,14 @@ use Rattle.layout.specs.declared.counts.Counts.{Counts}
 use Rattle.layout.specs.Layout.{first_leg, leg_count, leg_record, leg_of, low_of, hope_of, steps_of, floor_under, floor_of, guesses_of}
 use Rattle.layout.specs.Records.{whole, record_at}
 
--- The counts are within the limits.
-abbrev pub Few : Counts → Type 0
-Few n = (1 ≤ n.size) × (n.size ≤ 4096) × (n.legs ≤ 65535)
-
--- First legs do not pass the legs, legs lead to places, and costs are two-byte numbers.
-abbrev pub Linked : List ℕ → Counts → Type 0
-Linked bs n =
-    ((p : ℕ) → first_leg bs n p ≤ n.legs)
-    × ((j : ℕ) → j < n.legs → (record_at bs (n.places + j)).word1 < n.size)
-    × ((r : ℕ) → (record_at bs r).half ≤ 65535)
-
-abbrev pub Formed : List ℕ → Counts → Type 0
-Formed bs n = Few n × Linked bs n
+-- The counts are within the limits, first legs do not pass the legs, legs lead to places, and costs are two-byte numbers.
+pub record Formed (bs : List ℕ) (n : Counts) : Type 0 where
+  pub some_place : 1 ≤ n.size
+  pub few_places : n.size ≤ 4096
+  pub few_legs : n.legs ≤ 65535
+  pub firsts : (p : ℕ) → first_leg bs n p ≤ n.legs
+  pub targets : (j : ℕ) → j < n.legs → (record_at bs (n.places + j)).word1 < n.size
+  pub costs : (r : ℕ) → (record_at bs r).half ≤ 65535
 
 -- Each place record is a place, the legs fill the rest, and first legs begin at 0 and never fall.
 pub record Ordered (bs : List ℕ) (n : Counts) : Type 0 where
@@ -32,10 +27,11 @@ pub record Ordered (bs : List ℕ) (n : Counts) : Type 0 where
   pub rises : (p : ℕ) → first_leg bs n p ≤ first_leg bs n (p + 1)
 
 -- The estimates are within the limit, and the low ones keep the law.
-abbrev pub Lawful : List ℕ → Counts → Type 0
-Lawful bs n =
-    ((p : ℕ) → low_of bs n p ≤ limit) × ((p : ℕ) → hope_of bs n p ≤ limit) × ((p : ℕ) → steps_of bs n p ≤ limit)
-    × Admissible (floor_of bs n)
+pub record Lawful (bs : List ℕ) (n : Counts) : Type 0 where
+  pub lows : (p : ℕ) → low_of bs n p ≤ limit
+  pub hopes : (p : ℕ) → hope_of bs n p ≤ limit
+  pub step_counts : (p : ℕ) → steps_of bs n p ≤ limit
+  pub admissible : Admissible (floor_of bs n)
 
 -- A number below the length of a place's list stands within the list.
 within_list : (bs : List ℕ) (n : Counts) (p k : ℕ) → k < leg_count bs n p → (p < n.size) × (first_leg bs n p + k < first_leg bs n (p + 1))
@@ -71,17 +67,17 @@ off p size x y h = cond-false (nat_lt p size) x y (le-ltb p size h)
 module _ (bs : List ℕ) (n : Counts) (formed : Formed bs n) (low : ℕ → ℕ) where
   few_legs_of : (p : ℕ) → leg_count bs n p ≤ 65535
   few_legs_of p = cond_both (nat_lt p n.size) _ _ (λ x. x ≤ 65535)
-      (λ _. omega (arith, formed.0.2, formed.1.0 (p + 1))) (λ _. omega arith)
+      (λ _. omega (arith, formed.few_legs, formed.firsts (p + 1))) (λ _. omega arith)
 
   limits_of : ((p : ℕ) → low p ≤ limit) → Limits (floor_under low bs n)
   limits_of lows = record {
-    some_place = formed.0.0;
-    few_places = formed.0.1;
+    some_place = formed.some_place;
+    few_places = formed.few_places;
     few_legs = few_legs_of;
     targets = λ p k l e.
         let u = usable bs n p k l e in
-        subst (λ x. x < n.size) u.2 (formed.1.1 (first_leg bs n p + k) (omega (arith, u.1, formed.1.0 (p + 1))));
-    costs = λ p k l e. subst (λ x. x ≤ 65535) (usable bs n p k l e).3 (formed.1.2 (leg_record bs n p k));
+        subst (λ x. x < n.size) u.2 (formed.targets (first_leg bs n p + k) (omega (arith, u.1, formed.firsts (p + 1))));
+    costs = λ p k l e. subst (λ x. x ≤ 65535) (usable bs n p k l e).3 (formed.costs (leg_record bs n p k));
     lows = lows;
   }
 
@@ -103,10 +99,10 @@ draft_sound bs n formed = record {
 
 pub layout_sound : (bs : List ℕ) (n : Counts) → Formed bs n → Lawful bs n → Sound (floor_of bs n)
 layout_sound bs n formed lawful = record {
-  limits = limits_of bs n formed (low_of bs n) lawful.0;
+  limits = limits_of bs n formed (low_of bs n) lawful.lows;
   outside = outside_of bs n formed (low_of bs n) (λ p h. off p n.size _ _ h);
-  admissible = lawful.3;
+  admissible = lawful.admissible;
 }
 
 pub layout_limited : (bs : List ℕ) (n : Counts) → Lawful bs n → Limited (guesses_of bs n)
-layout_limited bs n lawful = record { hopes = lawful.1; step_counts = lawful.2 }
+layout_limited bs n lawful = record { hopes = lawful.hopes; step_counts = lawful.step_counts }

@@ -5,8 +5,9 @@ use Rattle.floors.specs.declared.leg.Leg.{Leg}
 use Rattle.floors.specs.Guided.{Guesses}
 use Rattle.floors.specs.Meaning.{Meaning}
 use Rattle.layout.specs.declared.counts.Counts.{Counts}
+use Rattle.layout.specs.declared.record.RawRecord.{RawRecord}
 use Rattle.layout.specs.Lowest.{lowest}
-use Rattle.layout.specs.Records.{whole, record_at}
+use Rattle.layout.specs.Records.{whole, zeros, record_at}
 
 -- Byte 0 of a place record, and of a leg record.
 abbrev pub place_tag : ℕ
@@ -46,6 +47,10 @@ leg_record bs n p k = n.places + (first_leg bs n p + k)
 abbrev pub leg_of : List ℕ → Counts → ℕ → ℕ → Option Leg
 leg_of bs n p k = cond (nat_lt k (leg_count bs n p))
     (Some (record { target = (record_at bs (leg_record bs n p k)).word1; cost = (record_at bs (leg_record bs n p k)).half })) None
+
+-- The record of place p; off the floor, zeros.
+abbrev pub place_record : List ℕ → Counts → ℕ → RawRecord
+place_record bs n p = cond (nat_lt p n.size) (record_at bs p) zeros
 
 -- Byte 1 of a place record is 1 for a goal.
 abbrev pub goal_of : List ℕ → Counts → ℕ → Bool

@@ -10,3 +10,7 @@ lowest fails (suc n) = elim (lowest fails n) [ Some r ↦ Some r | None ↦ cond
 abbrev pub IsLowest : (ℕ → Bool) → ℕ → Option ℕ → Type 0
 IsLowest fails n None = (k : ℕ) → k < n → fails k ≡ false
 IsLowest fails n (Some i) = (i < n) × (fails i ≡ true) × ((k : ℕ) → k < i → fails k ≡ false)
+
+-- Each answer that a test gives is that of its definition.
+abbrev pub Answers : (ℕ → Bool → Type 0) → (ℕ → Bool) → Type 0
+Answers gives test = (r : ℕ) (b : Bool) → gives r b → b ≡ test r

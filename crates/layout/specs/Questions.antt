@@ -24,6 +24,10 @@ wrong_tag bs r =
     not ((record_at bs r).tag == place_tag || (record_at bs r).tag == leg_tag)
     || ((record_at bs r).tag == place_tag && leg_before bs r)
 
+-- The same asked the short way, where the first `first` records are all the place records: behind them every record is a leg record.
+abbrev pub no_leg_behind : List ℕ → ℕ → ℕ → Bool
+no_leg_behind bs first r = nat_le first r && not ((record_at bs r).tag == leg_tag)
+
 -- 4: at most 4,096 place records and 65,535 leg records; it names the first too many, of the places before the legs.
 abbrev pub too_many : Counts → Option ℕ
 too_many n = cond (nat_lt 4096 n.places) (Some 4096) (cond (nat_lt 65535 n.legs) (Some (n.places + 65535)) None)

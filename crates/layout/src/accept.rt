@@ -3,10 +3,10 @@ ghost use Rattle.layout.specs.Checked.{Checked};
 ghost use Rattle.layout.specs.Intake.{Taken};
 
 use crate::counts::Counts;
+use crate::divided::Divided;
+use crate::draft::Draft;
 use crate::fault::LayoutFault;
-use crate::law::check_low;
 use crate::layout_floor::LayoutFloor;
-use crate::records::read_records;
 use crate::refused::Refused;
 use crate::shape::check_shape;
 
@@ -14,10 +14,13 @@ use crate::shape::check_shape;
 fn check(layout: &[u8]) -> Result<Counts, LayoutFault>
     ensures { Checked layout.now result }
 {
-    let counts = check_shape(layout)?;
-    read_records(layout, counts)?;
-    check_low(layout, counts)?;
-    Ok(counts)
+    let divided = Divided {
+        layout,
+        counts: check_shape(layout)?,
+    };
+    divided.read_records()?;
+    Draft { divided }.check_low()?;
+    Ok(divided.counts)
 }
 
 // The floor of the layout, or the first fault with the bytes handed back.

@@ -44,11 +44,11 @@ impl RecordFault {
         ensures { result ≡ record_of (record_verdict self.now) }
     {
         match *self {
-            RecordFault::Tag(record) => record,
-            RecordFault::FixedBytes(record) => record,
-            RecordFault::FirstLeg(record) => record,
-            RecordFault::Target(record) => record,
-            RecordFault::Estimate(record) => record,
+            RecordFault::Tag(record)
+            | RecordFault::FixedBytes(record)
+            | RecordFault::FirstLeg(record)
+            | RecordFault::Target(record)
+            | RecordFault::Estimate(record) => record,
         }
     }
 }
@@ -63,8 +63,7 @@ impl LayoutFault {
             LayoutFault::FirstRecord => 2,
             LayoutFault::TooMany(_) => 4,
             LayoutFault::Record(fault) => fault.number(),
-            LayoutFault::HighGoal(_) => 9,
-            LayoutFault::SteepLeg(_) => 9,
+            LayoutFault::HighGoal(_) | LayoutFault::SteepLeg(_) => 9,
         }
     }
 
@@ -72,13 +71,13 @@ impl LayoutFault {
     pub fn record(&self) -> usize
         ensures { result ≡ record_of (layout_verdict self.now) }
     {
-        match self {
-            LayoutFault::Length(record) => *record,
+        match *self {
             LayoutFault::FirstRecord => 0,
-            LayoutFault::TooMany(record) => *record,
             LayoutFault::Record(fault) => fault.record(),
-            LayoutFault::HighGoal(record) => *record,
-            LayoutFault::SteepLeg(record) => *record,
+            LayoutFault::Length(record)
+            | LayoutFault::TooMany(record)
+            | LayoutFault::HighGoal(record)
+            | LayoutFault::SteepLeg(record) => record,
         }
     }
 }

@@ -4,7 +4,7 @@ ghost use Rattle.layout.specs.Formed.{Formed, Lawful, layout_sound, layout_limit
 ghost use Rattle.layout.specs.Layout.{floor_of, guesses_of};
 
 use crate::counts::Counts;
-use crate::reading::{goal_of, hope_of, leg_count, leg_of, low_of, steps_of};
+use crate::divided::Divided;
 use floors::floor::Floor;
 use floors::guided::GuidedFloor;
 use floors::leg::Leg;
@@ -20,10 +20,23 @@ pub struct LayoutFloor {
 impl LayoutFloor {
     // The floor of bytes that divide so, where they are well formed and lawful.
     pub(crate) fn new(layout: Vec<u8>, counts: Counts) -> LayoutFloor
-        requires { (Formed layout.items counts) × (Lawful layout.items counts) }
-        ensures { (result.layout ≡ layout) × (result.counts ≡ counts) }
+        requires formed { Formed layout.items counts }
+        requires lawful { Lawful layout.items counts }
+        ensures layout { result.layout ≡ layout }
+        ensures counts { result.counts ≡ counts }
     {
         LayoutFloor { layout, counts }
+    }
+
+    // The bytes and how they divide.
+    fn divided(&self) -> Divided<'_>
+        ensures layout { result.layout.now ≡ self.now.layout.items }
+        ensures counts { result.counts ≡ self.now.counts }
+    {
+        Divided {
+            layout: self.layout.as_slice(),
+            counts: self.counts,
+        }
     }
 
     // How many leg records the layout has.
@@ -52,19 +65,19 @@ impl Floor for LayoutFloor {
     }
 
     fn legs(&self, place: u32) -> u32 {
-        leg_count(self.layout.as_slice(), self.counts, place)
+        self.divided().leg_count(place)
     }
 
     fn leg(&self, place: u32, number: u32) -> Option<Leg> {
-        leg_of(self.layout.as_slice(), self.counts, place, number)
+        self.divided().leg(place, number)
     }
 
     fn is_goal(&self, place: u32) -> bool {
-        goal_of(self.layout.as_slice(), self.counts, place)
+        self.divided().is_goal(place)
     }
 
     fn low(&self, place: u32) -> u32 {
-        low_of(self.layout.as_slice(), self.counts, place)
+        self.divided().low(place)
     }
 }
 
@@ -74,10 +87,10 @@ impl GuidedFloor for LayoutFloor {
     ghost limited = { λ f. layout_limited f.layout.items f.counts f.lawful };
 
     fn hope(&self, place: u32) -> u32 {
-        hope_of(self.layout.as_slice(), self.counts, place)
+        self.divided().hope(place)
     }
 
     fn steps(&self, place: u32) -> u32 {
-        steps_of(self.layout.as_slice(), self.counts, place)
+        self.divided().steps(place)
     }
 }

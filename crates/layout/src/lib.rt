@@ -3,6 +3,7 @@
 
 mod accept;
 mod counts;
+mod divided;
 mod draft;
 mod encode;
 mod fault;
@@ -10,7 +11,6 @@ mod law;
 mod layout_floor;
 mod question;
 mod raw;
-mod reading;
 mod record;
 mod records;
 mod refused;

@@ -7,20 +7,21 @@ ghost use Rattle.layout.specs.Questions.{broken_length, no_first_place, wrong_ta
 ghost use Rattle.layout.specs.Records.{whole as whole_records};
 ghost use Rattle.layout.specs.Verdict.{asked, shape as shape_verdict};
 
-use crate::counts::Counts;
+use crate::counts::{Counts, MOST_LEGS, MOST_PLACES};
 use crate::fault::{LayoutFault, RecordFault};
 use crate::question::{lowest_failing, put};
 use crate::raw::raw_record;
-use crate::records::{NoPlace, PLACE_TAG, WrongTag};
+use crate::record::{PLACE_TAG, RECORD_BYTES};
+use crate::records::{no_place, wrong_tag};
 
 // Question 1.
 fn check_length(layout: &[u8]) -> Result<(), LayoutFault>
     ensures { says layout_verdict result ≡ asked 1 (broken_length layout.now) }
 {
-    if layout.len() % 16 == 0 {
+    if layout.len() % RECORD_BYTES == 0 {
         Ok(())
     } else {
-        Err(LayoutFault::Length(layout.len() / 16))
+        Err(LayoutFault::Length(layout.len() / RECORD_BYTES))
     }
 }
 
@@ -40,8 +41,8 @@ fn count_places(layout: &[u8]) -> usize
     ensures count { result ≡ place_count layout.now }
     ensures within { result ≤ whole_records layout.now }
 {
-    let whole = layout.len() / 16;
-    lowest_failing(&NoPlace, layout, whole).unwrap_or(whole)
+    let whole = layout.len() / RECORD_BYTES;
+    lowest_failing(|index| no_place(layout, index), whole).unwrap_or(whole)
 }
 
 // Question 3, of a layout whose first place records are counted.
@@ -49,7 +50,11 @@ fn check_tags(layout: &[u8], places: usize) -> Result<(), RecordFault>
     requires { places ≡ place_count layout.now }
     ensures { says record_verdict result ≡ asked 3 (lowest (wrong_tag layout.now) (whole_records layout.now)) }
 {
-    put(&WrongTag { places }, layout, layout.len() / 16)
+    put(
+        |index| wrong_tag(layout, places, index),
+        layout.len() / RECORD_BYTES,
+        RecordFault::Tag,
+    )
 }
 
 // Question 4: the counts, where they are within the limits.
@@ -59,11 +64,11 @@ fn check_counts(whole: usize, places: usize) -> Result<Counts, LayoutFault>
     ensures counted { IfOk result (λ n. n ≡ divided whole places) }
 {
     let legs = whole - places;
-    if places > 4096 {
-        return Err(LayoutFault::TooMany(4096));
+    if places > MOST_PLACES {
+        return Err(LayoutFault::TooMany(MOST_PLACES));
     }
-    if legs > 65_535 {
-        return Err(LayoutFault::TooMany(places + 65_535));
+    if legs > MOST_LEGS {
+        return Err(LayoutFault::TooMany(places + MOST_LEGS));
     }
     Ok(Counts {
         size: places as u32,
@@ -81,5 +86,5 @@ pub fn check_shape(layout: &[u8]) -> Result<Counts, LayoutFault>
     check_first(layout)?;
     let places = count_places(layout);
     check_tags(layout, places)?;
-    check_counts(layout.len() / 16, places)
+    check_counts(layout.len() / RECORD_BYTES, places)
 }

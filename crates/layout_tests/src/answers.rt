@@ -1,29 +1,19 @@
 // What the floor of the sample layout answers, on the floor and off it.
-use crate::build::bytes;
+use crate::build::{accepted, bytes};
 use floors::floor::Floor;
 use floors::guided::GuidedFloor;
 use floors::leg::Leg;
-use layout::{LayoutFloor, intake, six_places};
+use layout::{LayoutFloor, six_places};
 use std::alloc::Global;
-use std::process::Abort;
 use std::test::Fail;
 
 fn sample(heap: Global) -> Result<LayoutFloor, Fail> {
-    match intake(bytes(heap, &six_places())?) {
-        Ok(floor) => Ok(floor),
-        Err(_) => Err(Fail::new("refused")),
-    }
+    accepted(bytes(heap, &six_places())?)
 }
 
-fn leads(rt: &impl Abort, leg: Option<Leg>, target: u32, cost: u32) -> Result<(), Fail> {
-    match leg {
-        Some(leg) => {
-            assert_eq!(rt; leg.target, target);
-            assert_eq!(rt; leg.cost, cost);
-            Ok(())
-        }
-        None => Err(Fail::new("barred")),
-    }
+// A leg that may be used.
+fn usable(target: u32, cost: u32) -> Option<Leg> {
+    Some(Leg { target, cost })
 }
 
 #[test]
@@ -31,9 +21,9 @@ fn on_the_floor(rt: HostRuntime) -> Result<(), Fail> {
     let floor = sample(rt.alloc())?;
     assert_eq!(rt; floor.places(), 6);
     assert_eq!(rt; floor.legs(2), 2);
-    leads(&rt, floor.leg(2, 0), 3, 5)?;
-    leads(&rt, floor.leg(2, 1), 4, 4)?;
-    assert!(rt; floor.leg(2, 2).is_none());
+    assert_eq!(rt; floor.leg(2, 0), usable(3, 5));
+    assert_eq!(rt; floor.leg(2, 1), usable(4, 4));
+    assert_eq!(rt; floor.leg(2, 2), None);
     assert!(rt; floor.is_goal(5));
     assert!(rt; !floor.is_goal(4));
     assert_eq!(rt; floor.low(2), 3);

@@ -1,5 +1,5 @@
 // Layouts, record by record, and what the intake says of them.
-use layout::{encode_place, intake};
+use layout::{LayoutFloor, encode_place, intake};
 use std::alloc::{AllocError, Global};
 use std::process::Abort;
 use std::test::Fail;
@@ -32,6 +32,11 @@ pub(crate) fn bytes(heap: Global, records: &[[u8; 16]]) -> Result<Vec<u8>, Alloc
     Ok(layout)
 }
 
+// The floor of a layout that is accepted.
+pub(crate) fn accepted(layout: Vec<u8>) -> Result<LayoutFloor, Fail> {
+    intake(layout).map_err(|_| Fail::new("refused"))
+}
+
 // The layout is refused by that question at that record, and comes back at its length.
 pub(crate) fn refused(
     rt: &impl Abort,
@@ -40,32 +45,30 @@ pub(crate) fn refused(
     record: usize,
 ) -> Result<(), Fail> {
     let length = layout.len();
-    match intake(layout) {
-        Ok(_) => Err(Fail::new("accepted")),
-        Err(refused) => {
-            assert_eq!(rt; refused.fault.number(), number);
-            assert_eq!(rt; refused.fault.record(), record);
-            assert_eq!(rt; refused.layout.len(), length);
-            Ok(())
-        }
-    }
+    let Err(refused) = intake(layout) else {
+        return Err(Fail::new("accepted"));
+    };
+    assert_eq!(rt; refused.fault.number(), number);
+    assert_eq!(rt; refused.fault.record(), record);
+    assert_eq!(rt; refused.layout.len(), length);
+    Ok(())
 }
 
-// The records are refused by that question at that record.
+// Each of the cases is refused by that question: its records, and the record that it is refused at.
 pub(crate) fn refuses(
     rt: &impl Abort,
     heap: Global,
-    records: &[[u8; 16]],
     number: u32,
-    record: usize,
+    cases: &[(&[[u8; 16]], usize)],
 ) -> Result<(), Fail> {
-    refused(rt, bytes(heap, records)?, number, record)
+    for (records, record) in cases {
+        refused(rt, bytes(heap, records)?, number, *record)?;
+    }
+    Ok(())
 }
 
 // The records are accepted.
 pub(crate) fn accepts(heap: Global, records: &[[u8; 16]]) -> Result<(), Fail> {
-    match intake(bytes(heap, records)?) {
-        Ok(_) => Ok(()),
-        Err(_) => Err(Fail::new("refused")),
-    }
+    accepted(bytes(heap, records)?)?;
+    Ok(())
 }

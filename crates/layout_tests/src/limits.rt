@@ -1,7 +1,7 @@
 // The greatest layout is accepted, and one record more is refused.
-use crate::build::{plain, refused};
+use crate::build::{accepted, plain, refused};
 use floors::floor::Floor;
-use layout::{encode_leg, intake};
+use layout::encode_leg;
 use std::alloc::{AllocError, Global};
 use std::test::Fail;
 
@@ -19,17 +19,13 @@ fn large(heap: Global, places: u32, legs: u32) -> Result<Vec<u8>, AllocError> {
 
 #[test]
 fn greatest(rt: HostRuntime) -> Result<(), Fail> {
-    match intake(large(rt.alloc(), 4096, 65_535)?) {
-        Ok(floor) => {
-            assert_eq!(rt; floor.places(), 4096);
-            assert_eq!(rt; floor.legs(4094), 0);
-            assert_eq!(rt; floor.legs(4095), 65_535);
-            assert!(rt; floor.leg(4095, 65_534).is_some());
-            assert!(rt; floor.leg(4095, 65_535).is_none());
-            Ok(())
-        }
-        Err(_) => Err(Fail::new("refused")),
-    }
+    let floor = accepted(large(rt.alloc(), 4096, 65_535)?)?;
+    assert_eq!(rt; floor.places(), 4096);
+    assert_eq!(rt; floor.legs(4094), 0);
+    assert_eq!(rt; floor.legs(4095), 65_535);
+    assert!(rt; floor.leg(4095, 65_534).is_some());
+    assert!(rt; floor.leg(4095, 65_535).is_none());
+    Ok(())
 }
 
 #[test]

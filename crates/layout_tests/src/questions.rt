@@ -19,154 +19,96 @@ fn length(rt: HostRuntime) -> Result<(), Fail> {
 
 #[test]
 fn first_record(rt: HostRuntime) -> Result<(), Fail> {
-    let heap = rt.alloc();
-    refuses(&rt, heap, &[encode_leg(0, 0)], 2, 0)?;
-    refuses(&rt, heap, &[encode_leg(0, 0), [7; 16]], 2, 0)
+    let leg = encode_leg(0, 0);
+    refuses(&rt, rt.alloc(), 2, &[(&[leg], 0), (&[leg, [7; 16]], 0)])
 }
 
 #[test]
 fn tags(rt: HostRuntime) -> Result<(), Fail> {
-    let heap = rt.alloc();
-    refuses(&rt, heap, &[plain(0), [7; 16], [7; 16]], 3, 1)?;
-    refuses(
-        &rt,
-        heap,
-        &[plain(0), encode_leg(0, 0), plain(0), plain(0)],
-        3,
-        2,
-    )?;
-    refuses(
-        &rt,
-        heap,
-        &[plain(0), encode_leg(0, 0), encode_leg(0, 0), [84; 16]],
-        3,
-        3,
-    )?;
+    let leg = encode_leg(0, 0);
     let flagged = with_byte(plain(0), 1, 2);
-    refuses(&rt, heap, &[flagged, encode_leg(0, 0), [7; 16]], 3, 2)
+    refuses(
+        &rt,
+        rt.alloc(),
+        3,
+        &[
+            (&[plain(0), [7; 16], [7; 16]], 1),
+            (&[plain(0), leg, plain(0), plain(0)], 2),
+            (&[plain(0), leg, leg, [84; 16]], 3),
+            (&[flagged, leg, [7; 16]], 2),
+        ],
+    )
 }
 
 #[test]
 fn fixed_bytes(rt: HostRuntime) -> Result<(), Fail> {
-    let heap = rt.alloc();
+    let leg = encode_leg(0, 0);
     let flagged = with_byte(plain(0), 1, 2);
-    refuses(&rt, heap, &[plain(0), flagged, flagged], 5, 1)?;
+    let eighth = with_byte(leg, 8, 1);
     refuses(
         &rt,
-        heap,
-        &[plain(0), with_byte(encode_leg(0, 0), 1, 1)],
+        rt.alloc(),
         5,
-        1,
-    )?;
-    refuses(
-        &rt,
-        heap,
         &[
-            plain(0),
-            encode_leg(0, 0),
-            with_byte(encode_leg(0, 0), 8, 1),
-            with_byte(encode_leg(0, 0), 8, 1),
+            (&[plain(0), flagged, flagged], 1),
+            (&[plain(0), with_byte(leg, 1, 1)], 1),
+            (&[plain(0), leg, eighth, eighth], 2),
+            (&[plain(0), with_byte(leg, 15, 255)], 1),
+            (&[plain(1), with_byte(leg, 11, 1)], 1),
         ],
-        5,
-        2,
-    )?;
-    refuses(
-        &rt,
-        heap,
-        &[plain(0), with_byte(encode_leg(0, 0), 15, 255)],
-        5,
-        1,
-    )?;
-    refuses(
-        &rt,
-        heap,
-        &[plain(1), with_byte(encode_leg(0, 0), 11, 1)],
-        5,
-        1,
     )
 }
 
 #[test]
 fn first_legs(rt: HostRuntime) -> Result<(), Fail> {
     let heap = rt.alloc();
-    refuses(&rt, heap, &[plain(1), encode_leg(0, 0)], 6, 0)?;
+    let leg = encode_leg(0, 0);
     refuses(
         &rt,
         heap,
+        6,
         &[
-            plain(0),
-            plain(2),
-            plain(1),
-            plain(0),
-            encode_leg(0, 0),
-            encode_leg(0, 0),
+            (&[plain(1), leg], 0),
+            (&[plain(0), plain(2), plain(1), plain(0), leg, leg], 2),
+            (&[plain(0), plain(2), plain(3), leg], 1),
+            (&[plain(0), plain(2), encode_leg(9, 0)], 1),
         ],
-        6,
-        2,
     )?;
-    refuses(
-        &rt,
-        heap,
-        &[plain(0), plain(2), plain(3), encode_leg(0, 0)],
-        6,
-        1,
-    )?;
-    refuses(&rt, heap, &[plain(0), plain(2), encode_leg(9, 0)], 6, 1)?;
     accepts(heap, &[plain(0), plain(1), plain(1), encode_leg(2, 0)])
 }
 
 #[test]
 fn targets(rt: HostRuntime) -> Result<(), Fail> {
-    let heap = rt.alloc();
+    let one = encode_leg(1, 0);
+    let two = encode_leg(2, 0);
+    let three = encode_leg(3, 0);
     refuses(
         &rt,
-        heap,
-        &[
-            plain(0),
-            plain(1),
-            encode_leg(1, 0),
-            encode_leg(2, 0),
-            encode_leg(3, 0),
-        ],
+        rt.alloc(),
         7,
-        3,
-    )?;
-    refuses(&rt, heap, &[with_low(0, ABOVE), encode_leg(1, 0)], 7, 1)
+        &[
+            (&[plain(0), plain(1), one, two, three], 3),
+            (&[with_low(0, ABOVE), one], 1),
+        ],
+    )
 }
 
 #[test]
 fn estimates(rt: HostRuntime) -> Result<(), Fail> {
     let heap = rt.alloc();
+    let low = with_low(0, ABOVE);
+    let hope = encode_place(false, 0, 0, ABOVE, 0);
+    let steps = encode_place(false, 0, 0, 0, ABOVE);
     refuses(
         &rt,
         heap,
-        &[plain(0), with_low(0, ABOVE), with_low(0, ABOVE)],
         8,
-        1,
-    )?;
-    refuses(
-        &rt,
-        heap,
-        &[plain(0), encode_place(false, 0, 0, ABOVE, 0)],
-        8,
-        1,
-    )?;
-    refuses(
-        &rt,
-        heap,
-        &[plain(0), plain(0), encode_place(false, 0, 0, 0, ABOVE)],
-        8,
-        2,
-    )?;
-    refuses(
-        &rt,
-        heap,
         &[
-            encode_place(true, 0, 1, 0, 0),
-            encode_place(false, 0, 0, 0, ABOVE),
+            (&[plain(0), low, low], 1),
+            (&[plain(0), hope], 1),
+            (&[plain(0), plain(0), steps], 2),
+            (&[encode_place(true, 0, 1, 0, 0), steps], 1),
         ],
-        8,
-        1,
     )?;
     accepts(
         heap,
@@ -176,19 +118,16 @@ fn estimates(rt: HostRuntime) -> Result<(), Fail> {
 
 #[test]
 fn goals_have_low_zero(rt: HostRuntime) -> Result<(), Fail> {
-    let heap = rt.alloc();
     let high = encode_place(true, 0, 1, 0, 0);
-    refuses(&rt, heap, &[high, high], 9, 0)?;
+    let later = encode_place(true, 1, 1, 0, 0);
     refuses(
         &rt,
-        heap,
-        &[
-            with_low(0, 5),
-            encode_place(true, 1, 1, 0, 0),
-            encode_leg(1, 1),
-        ],
+        rt.alloc(),
         9,
-        1,
+        &[
+            (&[high, high], 0),
+            (&[with_low(0, 5), later, encode_leg(1, 1)], 1),
+        ],
     )
 }
 
@@ -201,16 +140,11 @@ fn low_falls_by_the_cost(rt: HostRuntime) -> Result<(), Fail> {
     refuses(
         &rt,
         heap,
-        &[
-            five,
-            plain(3),
-            encode_leg(1, 5),
-            encode_leg(1, 4),
-            encode_leg(1, 3),
-        ],
         9,
-        3,
+        &[
+            (&[five, plain(3), encode_leg(1, 5), encode_leg(1, 4), encode_leg(1, 3)], 3),
+            (&[five, nine, level, encode_leg(0, 3)], 3),
+        ],
     )?;
-    refuses(&rt, heap, &[five, nine, level, encode_leg(0, 3)], 9, 3)?;
     accepts(heap, &[five, nine, level, encode_leg(0, 4)])
 }

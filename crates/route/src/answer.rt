@@ -1,48 +1,64 @@
-// The line that the program writes.
-ghost use Rattle.std.specs.Prelude.{◌≡◌, ◌++◌, IfOk, string_bytes, codes, decimal};
-ghost use Rattle.route.specs.Line.{line, refusal_line, accepted_line};
+// What the program says of a layout.
+ghost use Rattle.std.specs.Prelude.{◌≡◌, Some};
+ghost use Rattle.route.specs.Line.{line, outcome_line};
 
 use crate::input::MOST;
 use floors::floor::Floor;
 use layout::intake;
-use std::alloc::{AllocError, Global};
+use std::fmt;
 
-// A refused layout: the number of the question and the record.
-fn refusal(heap: Global, number: u32, at: usize) -> Result<String, AllocError>
-    ensures { IfOk result (λ s. string_bytes s ≡ refusal_line number at) }
-{
-    format!(in heap; "layout refused {number} at {at}")
+// Refused by the number of a question and at a record, or accepted with so many places and legs.
+#[derive(Clone, Copy)]
+pub enum Outcome {
+    Refused { number: u32, at: usize },
+    Accepted { places: u32, legs: u32 },
 }
 
-// An accepted layout: how many places and legs it has.
-fn acceptance(heap: Global, places: u32, legs: u32) -> Result<String, AllocError>
-    ensures { IfOk result (λ s. string_bytes s ≡ accepted_line places legs) }
-{
-    format!(in heap; "layout accepted places {places} legs {legs}")
+impl fmt::Display for Outcome {
+    ghost output = { λ a. Some (outcome_line a) };
+
+    fn fmt<W: fmt::Write>(&self, f: &mut fmt::Formatter<W>) -> fmt::Result {
+        match self {
+            Outcome::Refused { number, at } => write!(f, "layout refused {number} at {at}"),
+            Outcome::Accepted { places, legs } => {
+                write!(f, "layout accepted places {places} legs {legs}")
+            }
+        }
+    }
 }
 
-// The line for a layout; one that is too long is refused 10 at 1024 before anything else is asked.
-pub fn answer(heap: Global, layout: Vec<u8>) -> Result<String, AllocError>
-    ensures { IfOk result (λ s. string_bytes s ≡ line layout.items) }
+// The answer to a layout; one that is too long is refused 10 at 1024 before anything else is asked.
+pub fn answer(layout: Vec<u8>) -> Outcome
+    ensures { outcome_line result ≡ line layout.items }
 {
     if layout.len() > MOST {
-        return refusal(heap, 10, 1024);
+        return Outcome::Refused {
+            number: 10,
+            at: 1024,
+        };
     }
     match intake(layout) {
-        Ok(floor) => acceptance(heap, floor.places(), floor.leg_records()),
-        Err(refused) => refusal(heap, refused.fault.number(), refused.fault.record()),
+        Ok(floor) => Outcome::Accepted {
+            places: floor.places(),
+            legs: floor.leg_records(),
+        },
+        Err(refused) => Outcome::Refused {
+            number: refused.fault.number(),
+            at: refused.fault.record(),
+        },
     }
 }
 
 #[cfg(test)]
 mod tests {
     use super::*;
+    use std::alloc::Global;
     use std::test::Fail;
 
     // What is written of so many zero bytes.
     fn of_zeros(heap: Global, length: usize) -> Result<String, Fail> {
         let zeros = vec![in heap; 0u8; length]?;
-        Ok(answer(heap, zeros)?)
+        Ok(answer(zeros).to_string(heap)?)
     }
 
     #[test]

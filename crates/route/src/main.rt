@@ -8,9 +8,7 @@ use answer::answer;
 use input::{MOST, read_at_most};
 
 fn main(rt: HostRuntime) -> anyhow::Result<()> {
-    let heap = rt.alloc();
-    let layout = read_at_most(&mut rt.stdin(), heap, MOST + 1)?;
-    let line = answer(heap, layout)?;
-    rt.println(line)?;
+    let layout = read_at_most(&mut rt.stdin(), rt.alloc(), MOST + 1)?;
+    println!(rt; "{}", answer(layout))?;
     Ok(())
 }

@@ -5,18 +5,20 @@ use Rattle.layout.specs.Verdict.{verdict}
 use Rattle.layout.proofs.accept.intake.Goals as goal
 
 pub new-requires : goal.new-requires
-new-requires c = subst (λ bs. Formed bs c.in-Ok.counts × Lawful bs c.in-Ok.counts) c.as_slice.ensures.value c.in-Ok.ensures.fine
+new-requires c =
+    let fine = subst (λ bs. Formed bs c.in-Ok.counts × Lawful bs c.in-Ok.counts) c.as_slice.ensures.value c.in-Ok.ensures.fine in
+    record { formed = fine.0; lawful = fine.1 }
 
 pub returns-in-Ok : goal.returns-in-Ok
 returns-in-Ok c =
     let divides : c.new.result.counts ≡ counts (vec_items c.args.layout) =
-    c.new.ensures.1 ∙ c.in-Ok.ensures.divides ∙ ap counts c.as_slice.ensures.value in
+    c.new.ensures.counts ∙ c.in-Ok.ensures.divides ∙ ap counts c.as_slice.ensures.value in
     record {
       said = c.in-Ok.ensures.said ∙ ap verdict c.as_slice.ensures.value;
       floor = (
-        ap₂ (λ v n. floor_of (vec_items v) n) c.new.ensures.0 divides,
-        ap₂ (λ v n. guesses_of (vec_items v) n) c.new.ensures.0 divides,
-        c.new.ensures.0,
+        ap₂ (λ v n. floor_of (vec_items v) n) c.new.ensures.layout divides,
+        ap₂ (λ v n. guesses_of (vec_items v) n) c.new.ensures.layout divides,
+        c.new.ensures.layout,
         divides,
       );
       back = tt;
