@@ -2,6 +2,7 @@
 use Rattle.std.proofs.Common.{◌≡◌, ℕ, zero, suc, ◌+◌, ◌<◌, ◌≤◌, Bool, true, eqb, ltb, List, [], ◌∷◌, map, length, get_or, is_some, Some, None, count_by, Option, sym, refl, ap, ◌∙◌, ⊎_elim, add-one, arith, length-take}
 use Rattle.std.proofs.lemmas.List.{length-map}
 use Rattle.std.proofs.lemmas.Bool.{cases_eq, cases_lt, lt-ltb, le-ltb, eq-eqb, ne_eqb, leb-false}
+use Rattle.std.specs.List.{range_with_len}
 use Rattle.queue.specs.Entries.{entries}
 use Rattle.queue.proofs.Homes.{named, homes_noted}
 use Rattle.queue.proofs.Members.{tally, tally_true, tally_false, count_cons, count_one}
@@ -41,6 +42,23 @@ module _ {E : Type 0} (home : E → ℕ) where
 -- one more home
 pub expected_count_more : {E : Type 0} (x : ℕ → Option E) (m n : ℕ) (o : Option E) (b : Bool) → n ≡ expected_count x m → o ≡ x m → b ≡ is_some o → expected_count x (m + 1) ≡ n + tally b
 expected_count_more x m n o b counted is some = rw add-one (ap (λ (k : ℕ). k + tally (is_some (x m))) (sym counted) ∙ ap (λ (c : Bool). n + tally c) (sym (some ∙ ap is_some is)))
+
+-- the count over the list of the homes
+counted_from : {E : Type 0} (x : ℕ → Option E) (a n : ℕ) → expected_count x a + count_by (λ h. is_some (x h)) (range_with_len a n) ≡ expected_count x (a + n)
+counted_from x a zero = let e : a + 0 ≡ a = omega arith in omega (arith, ap (expected_count x) e)
+counted_from x a (suc n) =
+    let e : a + suc n ≡ suc a + n = omega arith in
+    let s : a + 1 ≡ suc a = omega arith in
+    omega (
+      arith,
+      ap (expected_count x) e,
+      ap (λ (b : ℕ). count_by (λ h. is_some (x h)) (range_with_len b n)) s,
+      count_cons (λ h. is_some (x h)) a (range_with_len (a + 1) n),
+      counted_from x (suc a) n,
+    )
+
+pub expected_counted : {E : Type 0} (x : ℕ → Option E) (n : ℕ) → count_by (λ h. is_some (x h)) (range_with_len 0 n) ≡ expected_count x n
+expected_counted x n = let e : 0 + n ≡ n = omega arith in omega (arith, counted_from x 0 n, ap (expected_count x) e)
 
 -- homes that are not expected make the count smaller
 pub expected_count_le : {E : Type 0} (x : ℕ → Option E) (m : ℕ) → expected_count x m ≤ m
