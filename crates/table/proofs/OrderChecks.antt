@@ -1,24 +1,38 @@
 -- The answers of the check of a table.
 use Rattle.std.proofs.Common.{◌≡◌, ℕ, ◌≤◌, Bool, true, false, ◌&&◌, List, length, is_some, Some, None, Option, sym, ap, ◌∙◌, subst, ⊎_elim}
 use Rattle.std.proofs.lemmas.Bool.{both_ways, cases_Bool, cond-true, cond-false}
+use Rattle.std.proofs.lemmas.List.Elements.{All-get_or, All-from_get_or}
+use Rattle.std.proofs.lemmas.List.Sums.{AllPass-from_list_all, list_all-from_AllPass}
+use Rattle.std.specs.List.{list_all}
 use Rattle.roster.proofs.Checking.{every_each, each_every}
-use Rattle.roster.specs.Check.{IsFailing, every, expected_in, roster_right}
+use Rattle.roster.specs.Check.{expected_in, roster_right}
 use Rattle.roster.specs.Holds.{expected_count}
+use Rattle.search_model.specs.declared.records.Record.{Record}
 use Rattle.search_model.specs.declared.search.Search.{Search}
 use Rattle.table.specs.declared.node.Node.{Node}
 use Rattle.table.specs.declared.order.Queued.{Queued}
-use Rattle.table.specs.Asked.{asked, records_right, hope_right, open_count, counted, when, HopeHeld, DecidedOrder}
+use Rattle.table.specs.Asked.{asked, right_at, records_right, hope_right, open_count, counted, when, HopeHeld, DecidedOrder}
 use Rattle.table.specs.Fresh.{blank_node}
-use Rattle.table.specs.Order.{in_order}
-use Rattle.table.proofs.OrderAsked.{asked_same}
+use Rattle.table.specs.Order.{record_right, in_order}
+use Rattle.table.proofs.OrderAsked.{asked_same, records_at}
 use Rattle.table.proofs.OrderLaws.{hope_holds, order_holds, order_tested}
 
--- a number that fails, or none
-pub failing_some : (p : ℕ → Bool) (n i : ℕ) → IsFailing (λ (_ : Node). p) n (Some i) → false ≡ every p n
-failing_some p n i (l, fails) = ⊎_elim (λ t. absurd (both_ways (p i) (fails blank_node) (every_each p n t i l))) sym (cases_Bool (every p n))
+-- every record is within its limits: by the nodes in turn, and by the places
+pub all_records : (t : List Node) → list_all (λ (n : Node). record_right n.kept) t ≡ records_right t
+all_records t = ⊎_elim
+    (λ yes. list_all-from_AllPass right t (All-from_get_or Right t blank_node (λ i l. subst (λ (r : Record). record_right r ≡ true) (records_at t i) (every_each (right_at t) (length t) yes i l))) ∙ sym yes)
+    (λ no. ⊎_elim
+    (λ all. absurd (both_ways (records_right t) no
+    (each_every (right_at t) (length t) (λ i l. subst (λ (r : Record). record_right r ≡ true) (sym (records_at t i)) (All-get_or Right t i blank_node l (AllPass-from_list_all right t all))))))
+    (λ some. some ∙ sym no)
+    (cases_Bool (list_all right t)))
+    (cases_Bool (records_right t))
+  where
+    right : Node → Bool
+    right n = record_right n.kept
 
-pub failing_none : (p : ℕ → Bool) (n : ℕ) → IsFailing (λ (_ : Node). p) n None → true ≡ every p n
-failing_none p n all = sym (each_every p n (λ i l. all i l blank_node))
+    Right : Node → Type 0
+    Right n = record_right n.kept ≡ true
 
 module _ {A : Type 0} (a b : Bool) (x : A) where
   -- where the first test passes the second one decides
