@@ -106,45 +106,40 @@ pub(crate) fn want_far(node: Node, place: u32) -> Option<CostEntry>
     }
 }
 
-// Gives a place a record and a side, and each queue what it wants of the place then.
-pub fn put_record(
-    frontier: Frontier,
-    search: Search,
-    table: &mut [Node],
-    place: u32,
-    kept: Record,
-    side: u32,
-) -> Frontier
-    requires { Puttable search frontier table.old place kept side }
-    ensures { PutDone search frontier table.old place kept side result table.new }
-{
-    let home = place as usize;
-    let old = table[home];
-    let new = Node {
-        kept: kept,
-        low: old.low,
-        hope: old.hope,
-        near: old.near,
-        far: old.far,
-        side: side,
-    };
-    table[home] = new;
-    let was = open_now(old.kept);
-    let opened = update::<Low, Node>(table, frontier.opened, home, was, want_low(new, place));
-    update::<Hope, Node>(table, frontier.opened, home, was, want_hope(new, place));
-    let wanted = want_near(search, new, place);
-    let nears = update::<Near, Node>(table, frontier.nears, home, on_near_side(old), wanted);
-    let fars = update::<Far, Node>(
-        table,
-        frontier.fars,
-        home,
-        on_far_side(old),
-        want_far(new, place),
-    );
-    Frontier {
-        opened: opened,
-        nears: nears,
-        fars: fars,
-        cover: frontier.cover,
+impl Frontier {
+    // Gives a place a record and a side, and each queue what it wants of the place then.
+    pub fn put_record(
+        &mut self,
+        search: Search,
+        table: &mut [Node],
+        place: u32,
+        kept: Record,
+        side: u32,
+    )
+        requires { Puttable search self.old table.old place kept side }
+        ensures { PutDone search self.old table.old place kept side self.new table.new }
+    {
+        let home = place as usize;
+        let old = table[home];
+        let new = Node { kept, side, ..old };
+        table[home] = new;
+        let was = open_now(old.kept);
+        let opened = update::<Low, Node>(table, self.opened, home, was, want_low(new, place));
+        update::<Hope, Node>(table, self.opened, home, was, want_hope(new, place));
+        let wanted = want_near(search, new, place);
+        let nears = update::<Near, Node>(table, self.nears, home, on_near_side(old), wanted);
+        let fars = update::<Far, Node>(
+            table,
+            self.fars,
+            home,
+            on_far_side(old),
+            want_far(new, place),
+        );
+        *self = Frontier {
+            opened,
+            nears,
+            fars,
+            ..*self
+        };
     }
 }

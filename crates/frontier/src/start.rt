@@ -37,38 +37,29 @@ fn side_for(search: Search, kept: Record, least: u32) -> u32
     }
 }
 
-// Puts one place on its side, and into the far queue if that is the far side.
-fn seat_place(search: Search, table: &mut [Node], place: u32, least: u32, fars: usize) -> usize
-    requires { Seatable table.old place fars }
-    ensures { (t : List TableNode) (opened nears : ℕ) → Seating search least t opened nears place fars table.old → Seating search least t opened nears (place + 1) result table.new }
-{
-    let old = table[place as usize];
-    let new = Node {
-        kept: old.kept,
-        low: old.low,
-        hope: old.hope,
-        near: old.near,
-        far: old.far,
-        side: side_for(search, old.kept, least),
-    };
-    table[place as usize] = new;
-    update::<Far, Node>(table, fars, place as usize, false, want_far(new, place))
-}
-
-// Puts every open place on its side: the near set on the near side, the others on the far side, beyond the least f̂.
-pub fn start(search: Search, opened: usize, nears: usize, table: &mut [Node]) -> Frontier
-    requires { Startable search opened nears table.old }
-    ensures { Rearranged search table.old (least_hope (records table.old)) result table.new }
-{
-    let least = least_hope(table, opened);
-    let mut fars = 0;
-    for place in 0..table.len() {
-        fars = seat_place(search, table, place as u32, least, fars);
+impl Frontier {
+    // Puts one place on its side, and into the far queue if that is the far side.
+    fn seat_place(&mut self, search: Search, table: &mut [Node], place: u32)
+        requires { Seatable table.old place self.old.fars }
+        ensures { (least : ℕ) (t : List TableNode) → Seating search least t self.old place table.old → Seating search least t self.new (place + 1) table.new }
+    {
+        let old = table[place as usize];
+        let side = side_for(search, old.kept, self.cover);
+        let new = Node { side, ..old };
+        table[place as usize] = new;
+        self.fars = update::<Far, Node>(table, self.fars, place as usize, false, want_far(new, place));
     }
-    Frontier {
-        opened: opened,
-        nears: nears,
-        fars: fars,
-        cover: least,
+
+    // Puts every open place on its side: the near set on the near side, the others on the far side, beyond the least f̂.
+    pub fn start(search: Search, opened: usize, nears: usize, table: &mut [Node]) -> Frontier
+        requires { Startable search opened nears table.old }
+        ensures { Rearranged search table.old (least_hope (records table.old)) result table.new }
+    {
+        let cover = least_hope(table, opened);
+        let mut front = Frontier { opened, nears, fars: 0, cover };
+        for place in 0..table.len() {
+            front.seat_place(search, table, place as u32);
+        }
+        front
     }
 }
