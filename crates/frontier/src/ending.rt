@@ -6,6 +6,7 @@ ghost use Rattle.frontier.specs.Endings.{Trimmable, Trimmed, Ended, TrimmedAt, T
 ghost use Rattle.frontier.specs.Frontier.{Prepared, near_side};
 
 use crate::frontier::{Frontier, on_near_side};
+use crate::side::Side;
 use search_model::search::Search;
 use table::node::Node;
 use table::order::least_hope;
@@ -26,7 +27,7 @@ impl Frontier {
         ensures { TrimmedAt search self.old table.old place least self.new table.new }
     {
         if is_past(search, table[place as usize], least) {
-            self.move_place(search, table, place, 0);
+            self.move_place(search, table, place, Side::Far);
         }
     }
 

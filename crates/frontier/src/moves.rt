@@ -4,9 +4,11 @@ ghost use Rattle.search_model.specs.Expansion.{closed};
 ghost use Rattle.search_model.specs.Records.{at};
 ghost use Rattle.frontier.specs.Frontier.{Prepared, RecordPut};
 ghost use Rattle.frontier.specs.Moves.{Labelled, Closing, Movable, Moved, FarWithin, NearBeyond, Raised, Dropped, Lowered};
+ghost use Rattle.frontier.specs.Sides.{number_of};
 ghost use Rattle.table.specs.Table.{records};
 
 use crate::frontier::Frontier;
+use crate::side::Side;
 use queue::entry::{CostEntry, NearEntry};
 use queue::heap;
 use queue::order::Ranked;
@@ -23,11 +25,8 @@ impl Frontier {
         requires { Labelled search self.old table.old place kept }
         ensures { RecordPut search self.old table.old place kept self.new table.new }
     {
-        if is_within(search.bound, self.cover, kept.label + kept.hope) {
-            self.put_record(search, table, place, kept, 1);
-        } else {
-            self.put_record(search, table, place, kept, 0);
-        }
+        let side = Side::near_if(is_within(search.bound, self.cover, kept.label + kept.hope));
+        self.put_record(search, table, place, kept, side.number());
     }
 
     // Closes a place that is seen.
@@ -39,16 +38,16 @@ impl Frontier {
             mark: 2,
             ..table[place as usize].kept
         };
-        self.put_record(search, table, place, kept, 0);
+        self.put_record(search, table, place, kept, Side::Far.number());
     }
 
     // Moves a place to a side.
-    pub(crate) fn move_place(&mut self, search: Search, table: &mut [Node], place: u32, side: u32)
-        requires { Movable search self.old table.old place side }
-        ensures { Moved search self.old table.old place side self.new table.new }
+    pub(crate) fn move_place(&mut self, search: Search, table: &mut [Node], place: u32, side: Side)
+        requires { Movable search self.old table.old place (number_of side) }
+        ensures { Moved search self.old table.old place (number_of side) self.new table.new }
     {
         let kept = table[place as usize].kept;
-        self.put_record(search, table, place, kept, side);
+        self.put_record(search, table, place, kept, side.number());
     }
 
     // The first place on the far side if it is within the cover.
@@ -67,7 +66,7 @@ impl Frontier {
         ensures { Raised search table.old cover self.new table.new }
     {
         while let Some(place) = self.far_within(search, table, cover) {
-            self.move_place(search, table, place, 1);
+            self.move_place(search, table, place, Side::Near);
         }
         self.cover = cover;
     }
@@ -89,7 +88,7 @@ impl Frontier {
     {
         self.cover = least;
         while let Some(place) = self.near_beyond(search, table, least) {
-            self.move_place(search, table, place, 0);
+            self.move_place(search, table, place, Side::Far);
         }
     }
 }
