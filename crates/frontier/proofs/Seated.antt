@@ -1,6 +1,6 @@
 -- One more place is put on its side.
-use Rattle.std.proofs.Common.{◌≡◌, ℕ, ◌+◌, ◌<◌, ◌≤◌, Bool, true, false, cond, not, eqb, ltb, List, length, get_or, is_some, Some, None, Option, sym, refl, ap, ◌∙◌, subst, ⊎_elim, arith, length-set, get_or-set_other, get_or-set_same}
-use Rattle.std.proofs.lemmas.Bool.{cases_lt, cases_eq, cond-true, cond-false, lt-ltb, le-ltb, both_ways, and_parts, and_from, cases_Bool}
+use Rattle.std.proofs.Common.{◌≡◌, ℕ, ◌+◌, ◌<◌, ◌≤◌, Bool, true, false, cond, not, ◌&&◌, if◌then◌else◌, eqb, ltb, List, length, get_or, is_some, Some, None, Option, sym, refl, ap, ◌∙◌, subst, ⊎_elim, arith, length-set, get_or-set_other, get_or-set_same}
+use Rattle.std.proofs.lemmas.Bool.{cases_lt, cases_eq, cond-true, cond-false, lt-ltb, le-ltb, both_ways, and_parts, and_from, and_right, cases_Bool}
 use Rattle.queue.specs.Keys.{cost_at_most, near_at_most}
 use Rattle.queue.specs.declared.entry.CostEntry.{CostEntry}
 use Rattle.queue.proofs.Parts.{part_set}
@@ -24,6 +24,9 @@ use Rattle.frontier.specs.Moves.{Rearranged}
 use Rattle.table.specs.Order.{cost_place, near_place_of, InOrder}
 use Rattle.table.specs.Seats.{low_entry, low_note, hope_entry, hope_note, near_entry, near_note, far_entry, far_note}
 use Rattle.frontier.specs.Starting.{Seatable, Seating, far_before}
+use Rattle.frontier.specs.Sides.{number_of}
+use Rattle.frontier.specs.declared.side.Side.{Side}
+use Rattle.frontier.specs.declared.side.Side.TheVariants.{Near, Far}
 use Rattle.frontier.specs.Frontier.{AllBeyond, near_side_wanted, far_side_wanted, far_side, near_side}
 use Rattle.table.specs.Table.{records, low_wanted, hope_wanted, near_wanted, near_entry_of, least_hope}
 use Rattle.frontier.proofs.Putting.{no_node, node_at, FarOnly, renewed, written}
@@ -33,6 +36,16 @@ use Rattle.frontier.proofs.Trimming.{expected_agree}
 not-true : (b : Bool) → not b ≡ true → b ≡ false
 not-true true e = absurd (both_ways false refl e)
 not-true false e = refl
+
+-- the near side is where the test of the near set says
+pub side_near : (s : Search) (least : ℕ) (kept : Record) {near : Bool} {side : Side} {number : ℕ} → near ≡ is_near s least kept → side ≡ (if near then Near else Far) → number ≡ number_of side
+    → (is_open kept && eqb number 1) ≡ is_near s least kept
+side_near s least kept {near} is on stored =
+    rw (stored, on) (by near is)
+  where
+    by : (b : Bool) → b ≡ is_near s least kept → (is_open kept && eqb (number_of (if b then Near else Far)) 1) ≡ is_near s least kept
+    by true e = ap (λ (b : Bool). b && true) (and_parts (is_open kept) (within s least kept) (sym e)).0 ∙ e
+    by false e = and_right (is_open kept) false refl ∙ e
 
 module _ (u : List Node) (place side : ℕ) (on : place < length u) where
   abbrev new : Node
@@ -107,7 +120,7 @@ module _ (u : List Node) (place side : ℕ) (on : place < length u) where
             far_more;
         seated = λ d p l. subst (Right least) (sym (face_at d p)) (⊎_elim
             (λ (e : p ≡ place). subst (λ (n : Node). Right least (face n)) (sym (ap (λ (a : ℕ). get_or sat a d) e ∙ get_or-set_same u place new d on))
-                (subst (λ (k : ℕ). Right k (face new)) S.covers side_is))
+            (subst (λ (k : ℕ). Right k (face new)) S.covers side_is))
             (λ ne. subst (λ (n : Node). Right least (face n)) (sym (get_or-set_other u place p new d ne)) (S.seated d p (below p l ne)))
             (cases_eq p place));
         covers = S.covers;

@@ -5,19 +5,19 @@ ghost use Rattle.search_model.specs.Fields.{RecordLimits};
 ghost use Rattle.frontier.specs.Endings.{Trimmable, Trimmed, Ended, TrimmedAt, TrimmingAt};
 ghost use Rattle.frontier.specs.Frontier.{Prepared, near_side};
 
-use crate::frontier::{Frontier, on_near_side};
-use crate::side::Side;
+use crate::frontier::Frontier;
+use crate::side::{Side, on_near_side};
 use search_model::search::Search;
 use table::node::Node;
 use table::order::least_hope;
-use table::wanted::is_within;
+use table::wanted::{hope_sum, is_within};
 
 // Whether a node is of a place on the near side beyond the cover.
 fn is_past(search: Search, node: Node, least: u32) -> bool
     requires { RecordLimits node.kept }
     ensures { result ≡ (near_side node && not (within search least node.kept)) }
 {
-    on_near_side(node) && !is_within(search.bound, least, node.kept.label + node.kept.hope)
+    on_near_side(node) && !is_within(search.bound, least, hope_sum(node.kept))
 }
 
 impl Frontier {

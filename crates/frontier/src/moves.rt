@@ -17,7 +17,7 @@ use search_model::records::Record;
 use search_model::search::Search;
 use table::node::Node;
 use table::seats::{Far, Near};
-use table::wanted::is_within;
+use table::wanted::{hope_sum, is_within};
 
 impl Frontier {
     // Gives an open place a record: on the near side if it is within the cover, otherwise on the far side.
@@ -25,7 +25,7 @@ impl Frontier {
         requires { Labelled search self.old table.old place kept }
         ensures { RecordPut search self.old table.old place kept self.new table.new }
     {
-        let side = Side::near_if(is_within(search.bound, self.cover, kept.label + kept.hope));
+        let side = Side::near_if(is_within(search.bound, self.cover, hope_sum(kept)));
         self.put_record(search, table, place, kept, side.number());
     }
 
@@ -34,10 +34,7 @@ impl Frontier {
         requires { Closing search self.old table.old place }
         ensures { RecordPut search self.old table.old place (closed (at (records table.old) place)) self.new table.new }
     {
-        let kept = Record {
-            mark: 2,
-            ..table[place as usize].kept
-        };
+        let kept = table[place as usize].kept.closed();
         self.put_record(search, table, place, kept, Side::Far.number());
     }
 

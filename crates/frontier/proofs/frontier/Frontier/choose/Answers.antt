@@ -1,4 +1,3 @@
-use Rattle.std.proofs.Common.{None}
 use Rattle.frontier.proofs.Firsts.{low_first, low_mark_first, low_mark_none, still_ready}
 use Rattle.frontier.proofs.frontier.Frontier.choose.Goals as goal
 

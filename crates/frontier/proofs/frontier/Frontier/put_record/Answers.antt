@@ -3,10 +3,10 @@ use Rattle.frontier.proofs.Putting.{can_low, can_hope, can_near, can_far, low_la
 use Rattle.frontier.proofs.frontier.Frontier.put_record.Goals as goal
 
 pub update-opened-requires : goal.update-opened-requires
-update-opened-requires c = can_low c.requires c.open_now-was.result c.want_low.result c.open_now-was.ensures c.want_low.ensures
+update-opened-requires c = can_low c.requires c.is_open-was.result c.want_low.result c.is_open-was.ensures c.want_low.ensures
 
 pub update-requires : goal.update-requires
-update-requires c = can_hope c.requires c.update-opened.ensures.frame c.open_now-was.result c.want_hope.result c.open_now-was.ensures c.want_hope.ensures
+update-requires c = can_hope c.requires c.update-opened.ensures.frame c.is_open-was.result c.want_hope.result c.is_open-was.ensures c.want_hope.ensures
 
 pub update-nears-requires : goal.update-nears-requires
 update-nears-requires c =
@@ -14,7 +14,7 @@ update-nears-requires c =
 
 pub update-fars-requires : goal.update-fars-requires
 update-fars-requires c =
-    can_far c.requires c.update-opened.ensures.frame c.update.ensures.frame c.update-nears.ensures.frame c.on_far_side.result c.want_far.result c.on_far_side.ensures c.want_far.ensures
+    can_far c.requires c.update-opened.ensures.frame c.update.ensures.frame c.update-nears.ensures.frame c.on_far_side.result c.want_far-wanted.result c.on_far_side.ensures c.want_far-wanted.ensures
 
 pub returns : goal.returns
 returns c =
@@ -23,13 +23,13 @@ returns c =
     let C = c.update-nears.ensures.frame in
     let D = c.update-fars.ensures.frame in
     let fr = c.args.self.now in
-    let was = c.open_now-was.result in
-    let opens : c.update-opened.result ≡ _ = counted fr.opened c.update-opened.result was _ _ c.want_low.result _ c.update-opened.ensures.count c.open_now-was.ensures c.want_low.ensures in
-    let hopes : c.update.result ≡ _ = counted fr.opened c.update.result was _ _ c.want_hope.result _ c.update.ensures.count c.open_now-was.ensures c.want_hope.ensures in
+    let was = c.is_open-was.result in
+    let opens : c.update-opened.result ≡ _ = counted fr.opened c.update-opened.result was _ _ c.want_low.result _ c.update-opened.ensures.count c.is_open-was.ensures c.want_low.ensures in
+    let hopes : c.update.result ≡ _ = counted fr.opened c.update.result was _ _ c.want_hope.result _ c.update.ensures.count c.is_open-was.ensures c.want_hope.ensures in
     put_done c.requires A B C D _ c.update.result refl (hopes ∙ sym opens)
-    (low_last c.requires A B C D was c.open_now-was.ensures c.want_low.result c.update-opened.result c.want_low.ensures c.update-opened.ensures.holds)
-    (hope_last c.requires A B C D was c.open_now-was.ensures c.want_hope.result c.update.result c.want_hope.ensures c.update.ensures.holds)
+    (low_last c.requires A B C D was c.is_open-was.ensures c.want_low.result c.update-opened.result c.want_low.ensures c.update-opened.ensures.holds)
+    (hope_last c.requires A B C D was c.is_open-was.ensures c.want_hope.result c.update.result c.want_hope.ensures c.update.ensures.holds)
     (near_last c.requires A B C D c.on_near_side.result c.want_near-wanted.result c.update-nears.result c.on_near_side.ensures c.want_near-wanted.ensures c.update-nears.ensures.holds)
-    (far_last c.requires A B C D c.on_far_side.result c.want_far.result c.update-fars.result c.on_far_side.ensures c.want_far.ensures c.update-fars.ensures.holds)
+    (far_last c.requires A B C D c.on_far_side.result c.want_far-wanted.result c.update-fars.result c.on_far_side.ensures c.want_far-wanted.ensures c.update-fars.ensures.holds)
     (counted fr.nears c.update-nears.result c.on_near_side.result _ _ c.want_near-wanted.result _ c.update-nears.ensures.count c.on_near_side.ensures c.want_near-wanted.ensures)
-    (counted fr.fars c.update-fars.result c.on_far_side.result _ _ c.want_far.result _ c.update-fars.ensures.count c.on_far_side.ensures c.want_far.ensures)
+    (counted fr.fars c.update-fars.result c.on_far_side.result _ _ c.want_far-wanted.result _ c.update-fars.ensures.count c.on_far_side.ensures c.want_far-wanted.ensures)
