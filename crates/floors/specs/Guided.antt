@@ -27,6 +27,15 @@ on_floor m guess p = cond (nat_lt p m.size) (guess p) 0
 abbrev pub guided : Meaning → Guesses → Guided
 guided m g = record { floor = m; hope = on_floor m g.hope; steps = on_floor m g.steps }
 
+-- What a floor that offers guesses says of itself, as the members of its bound give it.
+abbrev pub described : {F : Type 0} → record {
+  meaning : F → Meaning;
+  sound : (f : F) → Sound (meaning f);
+  guesses : F → Guesses;
+  limited : (f : F) → Limited (guesses f);
+} → F → Guided
+described says f = guided (says.meaning f) (says.guesses f)
+
 -- A sound guided floor: its floor is sound and its guesses are within the limit.
 pub record SoundGuided (g : Guided) : Type 0 where
   pub floor : Sound g.floor

@@ -35,9 +35,9 @@ pub trait Floor {
 
 // A borrowed floor is a floor.
 impl<F: Floor> Floor for &F {
-    ghost meaning = { λ f. F.Floor.meaning f.now };
+    ghost meaning = { λ f. F.meaning f.now };
 
-    ghost sound = { λ f. F.Floor.sound f.now };
+    ghost sound = { λ f. F.sound f.now };
 
     fn places(&self) -> u32 {
         (**self).places()

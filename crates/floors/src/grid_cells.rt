@@ -7,12 +7,10 @@ ghost use Rattle.floors.specs.Grid.{lesser_nonzero, least_nonzero, greatest};
 fn lesser(a: u8, b: u8) -> u8
     ensures { result ≡ lesser_nonzero a b }
 {
-    if b == 0 {
-        a
-    } else if a == 0 {
-        b
-    } else {
-        a.min(b)
+    match (a, b) {
+        (_, 0) => a,
+        (0, _) => b,
+        _ => a.min(b),
     }
 }
 
@@ -21,11 +19,7 @@ pub fn least_nonzero(cells: &[u8]) -> u8
     ensures is { result ≡ least_nonzero cells.now }
     ensures least { IsLeast cells.now result }
 {
-    let mut least: u8 = 0;
-    for cell in cells {
-        least = lesser(least, *cell);
-    }
-    least
+    cells.iter().fold(0, |least, cell| lesser(least, *cell))
 }
 
 // The greatest byte.
@@ -33,9 +27,5 @@ pub fn greatest_byte(cells: &[u8]) -> u8
     ensures is { result ≡ greatest cells.now }
     ensures greatest { IsGreatest cells.now result }
 {
-    let mut most: u8 = 0;
-    for cell in cells {
-        most = most.max(*cell);
-    }
-    most
+    cells.iter().fold(0, |most, cell| most.max(*cell))
 }

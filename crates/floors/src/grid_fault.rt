@@ -4,10 +4,10 @@ ghost use Rattle.floors.specs.GridQuestions.{grid_number};
 
 #[derive(Clone, Copy, PartialEq, Eq, Debug)]
 pub enum GridFault {
-    Width,
-    Height,
-    Bytes,
-    Goal,
+    Width = 11,
+    Height = 12,
+    Bytes = 13,
+    Goal = 14,
 }
 
 impl GridFault {
@@ -15,12 +15,7 @@ impl GridFault {
     pub fn number(&self) -> u32
         ensures { result ≡ grid_number self.now }
     {
-        match *self {
-            GridFault::Width => 11,
-            GridFault::Height => 12,
-            GridFault::Bytes => 13,
-            GridFault::Goal => 14,
-        }
+        *self as u32
     }
 }
 

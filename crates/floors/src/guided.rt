@@ -12,18 +12,18 @@ pub trait GuidedFloor: Floor {
 
     // The guessed cost to go.
     fn hope(&self, place: u32) -> u32
-        ensures { result ≡ (guided (Self.Floor.meaning self.now) (guesses self.now)).hope place };
+        ensures { result ≡ (guided (Self.meaning self.now) (guesses self.now)).hope place };
 
     // The guessed number of legs to go.
     fn steps(&self, place: u32) -> u32
-        ensures { result ≡ (guided (Self.Floor.meaning self.now) (guesses self.now)).steps place };
+        ensures { result ≡ (guided (Self.meaning self.now) (guesses self.now)).steps place };
 }
 
 // A borrowed guided floor is a guided floor.
 impl<F: GuidedFloor> GuidedFloor for &F {
-    ghost guesses = { λ f. F.GuidedFloor.guesses f.now };
+    ghost guesses = { λ f. F.guesses f.now };
 
-    ghost limited = { λ f. F.GuidedFloor.limited f.now };
+    ghost limited = { λ f. F.limited f.now };
 
     fn hope(&self, place: u32) -> u32 {
         (**self).hope(place)

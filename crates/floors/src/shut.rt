@@ -1,7 +1,7 @@
 // The shut floor: a floor with places that no leg enters.
 ghost use Rattle.std.specs.Prelude.{◌≡◌, nat_lt};
 ghost use Rattle.floors.specs.Questions.{first_no, refusal};
-ghost use Rattle.floors.specs.Shut.{no_places, contains, members, unless_shut, shut_floor};
+ghost use Rattle.floors.specs.Shut.{no_places, contains, members, shut_floor};
 ghost use Rattle.floors.specs.ShutQuestions.{shut_number, shut_questions, unshut_questions, after_shut, after_unshut};
 ghost use Rattle.floors.specs.ShutSound.{shut_sound};
 
@@ -16,22 +16,6 @@ use crate::shut_set::ShutSet;
 pub struct Shut<F> {
     floor: F,
     places: ShutSet,
-}
-
-// The leg, barred where it leads into the set.
-fn unless_shut(places: &ShutSet, leg: Option<Leg>) -> Option<Leg>
-    ensures { result ≡ unless_shut places.now.flags leg }
-{
-    match leg {
-        Some(leg) => {
-            if places.contains(leg.target) {
-                None
-            } else {
-                Some(leg)
-            }
-        }
-        None => None,
-    }
 }
 
 impl<F> Shut<F> {
@@ -50,7 +34,7 @@ impl<F> Shut<F> {
     pub fn into_floor(self) -> F
         ensures { result ≡ self.floor }
     {
-        let Shut { floor, places: _ } = self;
+        let Shut { floor, .. } = self;
         floor
     }
 
@@ -72,14 +56,14 @@ impl<F> Shut<F> {
 impl<F: Floor> Shut<F> {
     // Whether it is a place of the floor.
     fn is_place(&self, place: u32) -> bool
-        ensures { result ≡ nat_lt place (F.Floor.meaning self.now.floor).size }
+        ensures { result ≡ nat_lt place (F.meaning self.now.floor).size }
     {
         place < Floor::places(self)
     }
 
     // The questions of `shut`.
     fn ask_shut(&self, place: u32) -> Result<(), ShutFault>
-        ensures { refusal shut_number result ≡ first_no (shut_questions (F.Floor.meaning self.now.floor).size self.now.places.flags place) }
+        ensures { refusal shut_number result ≡ first_no (shut_questions (F.meaning self.now.floor).size self.now.places.flags place) }
     {
         if !self.is_place(place) {
             return Err(ShutFault::NoPlace);
@@ -95,7 +79,7 @@ impl<F: Floor> Shut<F> {
 
     // The questions of `unshut`.
     fn ask_unshut(&self, place: u32) -> Result<(), ShutFault>
-        ensures { refusal shut_number result ≡ first_no (unshut_questions (F.Floor.meaning self.now.floor).size self.now.places.flags place) }
+        ensures { refusal shut_number result ≡ first_no (unshut_questions (F.meaning self.now.floor).size self.now.places.flags place) }
     {
         if !self.is_place(place) {
             return Err(ShutFault::NoPlace);
@@ -108,31 +92,31 @@ impl<F: Floor> Shut<F> {
 
     // Bars every leg into the place.
     pub fn shut(&mut self, place: u32) -> Result<(), ShutFault>
-        ensures answer { refusal shut_number result ≡ first_no (shut_questions (F.Floor.meaning self.old.floor).size self.old.places.flags place) }
-        ensures places { self.new.places.flags ≡ after_shut (F.Floor.meaning self.old.floor).size self.old.places.flags place }
+        ensures answer { refusal shut_number result ≡ first_no (shut_questions (F.meaning self.old.floor).size self.old.places.flags place) }
+        ensures places { self.new.places.flags ≡ after_shut (F.meaning self.old.floor).size self.old.places.flags place }
         ensures floor { self.new.floor ≡ self.old.floor }
     {
         self.ask_shut(place)?;
-        self.places.insert(place);
+        self.places.set(place, true);
         Ok(())
     }
 
     // Lets legs into the place again.
     pub fn unshut(&mut self, place: u32) -> Result<(), ShutFault>
-        ensures answer { refusal shut_number result ≡ first_no (unshut_questions (F.Floor.meaning self.old.floor).size self.old.places.flags place) }
-        ensures places { self.new.places.flags ≡ after_unshut (F.Floor.meaning self.old.floor).size self.old.places.flags place }
+        ensures answer { refusal shut_number result ≡ first_no (unshut_questions (F.meaning self.old.floor).size self.old.places.flags place) }
+        ensures places { self.new.places.flags ≡ after_unshut (F.meaning self.old.floor).size self.old.places.flags place }
         ensures floor { self.new.floor ≡ self.old.floor }
     {
         self.ask_unshut(place)?;
-        self.places.remove(place);
+        self.places.set(place, false);
         Ok(())
     }
 }
 
 impl<F: Floor> Floor for Shut<F> {
-    ghost meaning = { λ s. shut_floor s.places.flags (F.Floor.meaning s.floor) };
+    ghost meaning = { λ s. shut_floor s.places.flags (F.meaning s.floor) };
 
-    ghost sound = { λ s. shut_sound s.places.flags (F.Floor.meaning s.floor) (F.Floor.sound s.floor) };
+    ghost sound = { λ s. shut_sound s.places.flags (F.meaning s.floor) (F.sound s.floor) };
 
     fn places(&self) -> u32 {
         self.floor.places()
@@ -143,7 +127,9 @@ impl<F: Floor> Floor for Shut<F> {
     }
 
     fn leg(&self, place: u32, number: u32) -> Option<Leg> {
-        unless_shut(&self.places, self.floor.leg(place, number))
+        self.floor
+            .leg(place, number)
+            .filter(|leg| !self.is_shut(leg.target))
     }
 
     fn is_goal(&self, place: u32) -> bool {
@@ -156,9 +142,9 @@ impl<F: Floor> Floor for Shut<F> {
 }
 
 impl<F: GuidedFloor> GuidedFloor for Shut<F> {
-    ghost guesses = { λ s. F.GuidedFloor.guesses s.floor };
+    ghost guesses = { λ s. F.guesses s.floor };
 
-    ghost limited = { λ s. F.GuidedFloor.limited s.floor };
+    ghost limited = { λ s. F.limited s.floor };
 
     fn hope(&self, place: u32) -> u32 {
         self.floor.hope(place)

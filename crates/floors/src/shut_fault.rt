@@ -4,10 +4,10 @@ ghost use Rattle.floors.specs.ShutQuestions.{shut_number};
 
 #[derive(Clone, Copy, PartialEq, Eq, Debug)]
 pub enum ShutFault {
-    NoPlace,
-    AlreadyShut,
-    TooMany,
-    NotShut,
+    NoPlace = 21,
+    AlreadyShut = 22,
+    TooMany = 23,
+    NotShut = 24,
 }
 
 impl ShutFault {
@@ -15,11 +15,6 @@ impl ShutFault {
     pub fn number(&self) -> u32
         ensures { result ≡ shut_number self.now }
     {
-        match *self {
-            ShutFault::NoPlace => 21,
-            ShutFault::AlreadyShut => 22,
-            ShutFault::TooMany => 23,
-            ShutFault::NotShut => 24,
-        }
+        *self as u32
     }
 }

@@ -1,6 +1,8 @@
 // A set of at most 64 places.
-ghost use Rattle.std.specs.Prelude.{◌≡◌, ◌+◌, ◌<◌, ◌≤◌, true, false, length};
-ghost use Rattle.floors.specs.Shut.{no_places, contains as contains_place, members, with_place, without_place};
+ghost use Rattle.std.specs.Prelude.{◌≡◌, ◌<◌, ◌≤◌, IsTrue, slice_set};
+ghost use Rattle.floors.specs.Shut.{no_places, contains as contains_place, members};
+
+use std::mem::replace;
 
 // A flag for each place that a floor can have, and how many are set.
 #[derive(Drop)]
@@ -9,35 +11,6 @@ pub struct ShutSet {
     count: u32,
     ghost counted: { count ≡ members flags },
     ghost few: { count ≤ 64 },
-}
-
-// Whether the place's flag is set.
-fn is_set(flags: &[bool], place: u32) -> bool
-    ensures { result ≡ contains_place flags.now place }
-{
-    if (place as usize) < flags.len() {
-        flags[place as usize]
-    } else {
-        false
-    }
-}
-
-// Sets a flag that is not set: one more member.
-fn raise(flags: &mut [bool], place: u32)
-    requires { (place < length flags.old) × (contains_place flags.old place ≡ false) }
-    ensures flags { flags.new ≡ with_place flags.old place }
-    ensures more { members flags.new ≡ members flags.old + 1 }
-{
-    flags[place as usize] = true;
-}
-
-// Clears a flag that is set: one member less.
-fn clear(flags: &mut [bool], place: u32)
-    requires { (place < length flags.old) × (contains_place flags.old place ≡ true) }
-    ensures flags { flags.new ≡ without_place flags.old place }
-    ensures less { members flags.new + 1 ≡ members flags.old }
-{
-    flags[place as usize] = false;
 }
 
 impl ShutSet {
@@ -62,24 +35,16 @@ impl ShutSet {
     pub fn contains(&self, place: u32) -> bool
         ensures { result ≡ contains_place self.now.flags place }
     {
-        is_set(&self.flags, place)
+        self.flags.get(place as usize).copied().unwrap_or(false)
     }
 
-    // Adds a place to a set that has room and lacks it.
-    pub fn insert(&mut self, place: u32)
-        requires { (place < 4096) × ((contains_place self.old.flags place ≡ false) × (members self.old.flags < 64)) }
-        ensures { self.new.flags ≡ with_place self.old.flags place }
+    // Puts the place into a set that has room for it, or takes it out.
+    pub fn set(&mut self, place: u32, inside: bool)
+        requires place { place < 4096 }
+        requires room { IsTrue inside → members self.old.flags < 64 }
+        ensures { self.new.flags ≡ slice_set self.old.flags place inside }
     {
-        raise(&mut self.flags, place);
-        self.count += 1;
-    }
-
-    // Takes a place out of the set.
-    pub fn remove(&mut self, place: u32)
-        requires { (place < 4096) × (contains_place self.old.flags place ≡ true) }
-        ensures { self.new.flags ≡ without_place self.old.flags place }
-    {
-        clear(&mut self.flags, place);
-        self.count -= 1;
+        let was = replace(&mut self.flags[place as usize], inside);
+        self.count = self.count + u32::from(inside) - u32::from(was);
     }
 }
