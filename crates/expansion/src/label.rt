@@ -1,6 +1,6 @@
 // Labels: whether a place takes one, and the record that comes with it.
 ghost use Rattle.std.specs.Prelude.{◌≡◌};
-ghost use Rattle.floors.specs.Guided.{guided};
+ghost use Rattle.floors.specs.Guided.{described};
 ghost use Rattle.search_model.specs.Expansion.{takes, labelled as labelled_record};
 
 use floors::floor::Floor;
@@ -19,7 +19,7 @@ pub(crate) fn takes_label(label: u32, kept: Record) -> bool
 
 // The record of an open place with a label given by way of a parent and one of its legs.
 pub fn labelled<F: GuidedFloor>(floor: &F, place: u32, label: u32, parent: u32, leg: u32) -> Record
-    ensures { result ≡ labelled_record (guided (F.Floor.meaning floor.now) (F.GuidedFloor.guesses floor.now)) place label parent leg }
+    ensures { result ≡ labelled_record (described F.GuidedFloor floor.now) place label parent leg }
 {
     let low = floor.low(place);
     let hope = floor.hope(place);

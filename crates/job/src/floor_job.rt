@@ -1,6 +1,6 @@
 // A job over a floor.
 ghost use Rattle.std.specs.Prelude.{◌≡◌, IfOk};
-ghost use Rattle.floors.specs.Guided.{guided};
+ghost use Rattle.floors.specs.Guided.{described};
 ghost use Rattle.floors.specs.Questions.{first_no, refusal};
 ghost use Rattle.search.specs.Faults.{search_number};
 ghost use Rattle.search.specs.Told.{tells};
@@ -27,7 +27,7 @@ fn ask<F: Floor>(
     table: &[Node],
     room: usize,
 ) -> Result<(), SearchFault>
-    ensures { refusal search_number result ≡ first_no (job_questions (F.Floor.meaning floor.now) start bound budget table.now room) }
+    ensures { refusal search_number result ≡ first_no (job_questions (F.meaning floor.now) start bound budget table.now room) }
 {
     ask_begin(floor, start, bound, table)?;
     if budget > 65_535 {
@@ -48,8 +48,8 @@ pub fn search_floor<F: GuidedFloor>(
     table: &mut [Node],
     list: &mut [u32],
 ) -> Result<JobAnswer, SearchFault>
-    ensures done { FloorJobDone (guided (F.Floor.meaning floor.now) (F.GuidedFloor.guesses floor.now)) start bound budget table.old list.old (tells answer_as result) table.new list.new }
-    ensures kept { IfOk result (λ x. JobKept (guided (F.Floor.meaning floor.now) (F.GuidedFloor.guesses floor.now)) start bound budget (answer_as x) table.new list.old list.new) }
+    ensures done { FloorJobDone (described F.GuidedFloor floor.now) start bound budget table.old list.old (tells answer_as result) table.new list.new }
+    ensures kept { IfOk result (λ x. JobKept (described F.GuidedFloor floor.now) start bound budget (answer_as x) table.new list.old list.new) }
 {
     ask(floor, start, bound, budget, table, list.len())?;
     let running = Running::begin(floor, start, bound, table)?;

@@ -54,7 +54,7 @@ fn by_leg(parent: u32, place: u32, leg: Option<Leg>) -> Back
 
 // One step back from a place, by its record.
 pub fn step_back<F: Floor>(floor: &F, start: u32, table: &[Node], place: u32) -> Back
-    ensures { result ≡ step_back (F.Floor.meaning floor.now) start (records table.now) place }
+    ensures { result ≡ step_back (F.meaning floor.now) start (records table.now) place }
 {
     if place == start {
         return Back::Arrived;

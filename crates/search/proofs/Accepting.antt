@@ -15,7 +15,7 @@ use Rattle.table.specs.Order.{InOrder}
 use Rattle.table.specs.Table.{records}
 use Rattle.table.proofs.OrderLaws.{order_tested}
 use Rattle.search.specs.Calls.{told, asked, Begun, ReboundDone}
-use Rattle.search.specs.Reports.{advance_report_of, TurnsDone}
+use Rattle.search.specs.Reports.{AdvanceReport, advance_report_of, TurnsDone}
 use Rattle.search.specs.Turns.{TurnsOrdered, stopped_as}
 use Rattle.search.specs.declared.turns.Stopped.{Stopped}
 use Rattle.search.specs.Questions.{bound_valid, begin_questions, rebound_questions}
@@ -64,17 +64,18 @@ begin_done g start bound size first t t' none valid sized is kept order =
       ordered = λ _. order_tested (first_search g start bound) t' 1 1 (order (first_search g start bound) valid);
     }
 
--- Turns up to a budget, where no question is answered no.
+-- Turns up to a budget, where no question is answered no, and what is told of them.
 pub turns_done :
-    {g : Guided} {s : Search} {budget whole : ℕ} {first : Option ℕ} {t : List Node} {r : Stopped} {t' : List Node}
+    {g : Guided} {s : Search} {budget whole : ℕ} {first : Option ℕ} {t : List Node} {r : Stopped} {t' : List Node} {a : AdvanceReport}
     → budget ≡ whole
     → None ≡ first
     → TurnsOrdered g s budget t r t'
-    → TurnsDone g s whole first t (told (stopped_as s r)) t'
-turns_done {g = g} {s = s} {whole = whole} {first = first} {t = t} {r = r} {t' = t'} same none h =
+    → a ≡ stopped_as s r
+    → TurnsDone g s whole first t (told a) t'
+turns_done {g = g} {s = s} {whole = whole} {first = first} {t = t} {r = r} {t' = t'} same none h is =
     let done : TurnsOrdered g s whole t r t' = subst (λ n. TurnsOrdered g s n t r t') same h in
     record {
-      said = ap told done.said ∙ ap (λ x. asked x (advance_report_of (going g whole s (records t)))) none;
+      said = ap told (is ∙ done.said) ∙ ap (λ x. asked x (advance_report_of (going g whole s (records t)))) none;
       left = done.left ∙ ap (λ x. unless x (going g whole s (records t)).records (records t)) none;
       same = not_refused first none;
       ordered = λ _. done.ordered;

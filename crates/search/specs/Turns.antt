@@ -15,12 +15,6 @@ use Rattle.search.specs.declared.turns.Stopped.{Stopped}
 use Rattle.search.specs.Reports.{AdvanceReport, advance_report_of}
 use Rattle.search.specs.Next.{answer_of, mark_of, with_total}
 
--- A search can take turns: its table is in order and has a node for each place, and its bound is valid.
-pub record Runnable (m : Meaning) (s : Search) (q : Queued) (t : List Node) : Type 0 where
-  pub ordered : InOrder s q.opened q.nears t
-  pub sized : length t ≡ m.size
-  pub bounded : s.bound.b ≤ s.bound.a
-
 -- Turns up to a budget, from these records on, end as the definition's do: answer, low mark, expansions, search and records.
 pub record TurnsTaken (g : Guided) (s : Search) (budget : ℕ) (rs : List Record) (r : Stopped) (t' : List Node) : Type 0 where
   pub answer : (going g budget s rs).answer ≡ answer_of r.ending
