@@ -10,6 +10,7 @@ pub mod grid_sample;
 mod grid_shape;
 pub mod guided;
 pub mod leg;
+pub mod limit;
 pub mod shut;
 pub mod shut_fault;
 mod shut_set;

@@ -101,18 +101,19 @@ module _ (s : Search) (least : ℕ) where
   near_absent t i n H = holds_absent near_at_most near_place_of near_entry near_note H i (below_here (expected_in (near_wanted s least) t) i)
 
   -- a place that is inserted
-  pub near_added : (t t' : List Node) (i n k cost : ℕ) → i < length t → is_near s least (get_or t i blank_node).kept ≡ true → NearBelow s least t i n t → cost ≡ f_hat (get_or t i blank_node).kept
-      → Inserted near_at_most (record { steps = (get_or t i blank_node).kept.steps; cost = cost; place = i }) (entries near_entry n t) (entries near_entry (n + 1) t')
+  pub near_added : (t t' : List Node) (i n k : ℕ) (e : NearEntry) → i < length t → is_near s least (get_or t i blank_node).kept ≡ true → NearBelow s least t i n t
+      → e ≡ near_entry_of s (get_or t i blank_node) i
+      → Inserted near_at_most e (entries near_entry n t) (entries near_entry (n + 1) t')
       → NotesRight near_place_of near_entry near_note (n + 1) t'
       → IndexedFrame near_place_of near_entry with_near_entry near_note with_near_note k t t'
       → NearBelow s least t (i + 1) (n + 1) t'
-  near_added t t' i n k cost l near H sum I N F =
+  near_added t t' i n k e l near H same I N F =
       let x = expected_in (near_wanted s least) t in
-      let e = near_entry_of s (get_or t i blank_node) i in
+      let wanted = near_entry_of s (get_or t i blank_node) i in
       let is : expected_in (near_wanted s least) t i ≡ Some (near_entry_of s (get_or t i blank_node) i) = expected_at (near_wanted s least) t i l ∙ cond-true _ _ _ near in
       holds_same near_at_most near_place_of near_entry near_note
-      (holds_inserted near_at_most near_place_of near_entry near_note near_ordered H e (near_room t i n l H) (below_here x i)
-      (subst (λ (c : ℕ). Inserted near_at_most (record { steps = (get_or t i blank_node).kept.steps; cost = c; place = i }) (entries near_entry n t) (entries near_entry (n + 1) t')) sum I) N F)
+      (holds_inserted near_at_most near_place_of near_entry near_note near_ordered H wanted (near_room t i n l H) (below_here x i)
+      (subst (λ (y : NearEntry). Inserted near_at_most y (entries near_entry n t) (entries near_entry (n + 1) t')) same I) N F)
       (λ h. ap (λ (o : Option NearEntry). put (below i x) i o h) (sym is) ∙ below_put x i h)
 
 -- a call of the near queue changes nothing else

@@ -8,7 +8,7 @@ ghost use Rattle.table.specs.Order.{InOrder};
 ghost use Rattle.table.specs.Table.{records};
 
 use crate::node::{Node, Seat};
-use crate::wanted::{hope_sum, low_sum};
+use crate::wanted::{by_hope, by_low, by_rank};
 use queue::entry::{CostEntry, NearEntry};
 use search_model::records::Record;
 
@@ -71,21 +71,9 @@ fn seat(node: &mut Node, start: u32, record: Record)
     requires limits { RecordLimits «record» }
     ensures { node.new ≡ seated node.old start «record» }
 {
-    let low = low_sum(record);
-    let hope = hope_sum(record);
-    node.low.entry = CostEntry {
-        cost: low,
-        place: start,
-    };
-    node.hope.entry = CostEntry {
-        cost: hope,
-        place: start,
-    };
-    node.near.entry = NearEntry {
-        steps: record.steps,
-        cost: hope,
-        place: start,
-    };
+    node.low.entry = by_low(record, start);
+    node.hope.entry = by_hope(record, start);
+    node.near.entry = by_rank(record, start);
 }
 
 // Keeps a record of a place.

@@ -13,8 +13,7 @@ ghost use Rattle.table.specs.Table.{records, low_wanted, hope_wanted};
 use crate::node::Node;
 use crate::order::least_hope;
 use crate::seats::Near;
-use crate::wanted::{hope_sum, is_near};
-use queue::entry::NearEntry;
+use crate::wanted::{by_rank, is_near};
 use queue::indexed;
 use search_model::search::Search;
 
@@ -28,12 +27,7 @@ fn add_near(state: Search, least: u32, table: &mut [Node], n: usize, place: usiz
 {
     let kept = table[place].kept;
     if is_near(state, least, kept) {
-        let e = NearEntry {
-            steps: kept.steps,
-            cost: hope_sum(kept),
-            place: place as u32,
-        };
-        indexed::insert::<Near, Node>(table, n, e);
+        indexed::insert::<Near, Node>(table, n, by_rank(kept, place as u32));
         n + 1
     } else {
         n

@@ -1,6 +1,7 @@
-// What the check of a table expects of a node in each queue.
-ghost use Rattle.std.specs.Prelude.{◌≡◌, ◌*◌, true, nat_le};
+// What the queues of a table expect of a place.
+ghost use Rattle.std.specs.Prelude.{◌≡◌, ◌*◌, ◌^◌, ◌<◌, true, nat_le};
 ghost use Rattle.search_model.specs.Choice.{is_near};
+ghost use Rattle.search_model.specs.Fields.{RecordLimits};
 ghost use Rattle.search_model.specs.Records.{f, f_hat, is_open};
 ghost use Rattle.table.specs.Asked.{askable, asked};
 ghost use Rattle.table.specs.Order.{record_right};
@@ -8,23 +9,21 @@ ghost use Rattle.table.specs.Table.{low_wanted, hope_wanted, near_wanted};
 
 use crate::node::Node;
 use crate::seats::{Hope, Low, Near};
+use floors::limit::LIMIT;
 use queue::entry::{CostEntry, NearEntry};
 use roster::check::Expect;
 use search_model::bound::Bound;
-use search_model::records::Record;
+use search_model::records::{Mark, Record};
 use search_model::search::Search;
 
-// The greatest label and the greatest estimate.
-const LIMIT: u32 = 268_365_825;
-
 // Whether a record is within its limits.
-pub fn is_right(record: Record) -> bool
-    ensures { result ≡ record_right «record» }
+pub fn is_right(kept: Record) -> bool
+    ensures { result ≡ record_right kept }
 {
-    record.mark <= 2
-        && (record.mark == 0
-            || (record.label <= LIMIT
-                && (record.low <= record.hope && (record.hope <= LIMIT && record.steps <= LIMIT))))
+    kept.mark <= Mark::Closed as u32
+        && (kept.is_unseen()
+            || (kept.label <= LIMIT
+                && (kept.low <= kept.hope && (kept.hope <= LIMIT && kept.steps <= LIMIT))))
 }
 
 // Whether the record is within its limits, and an entry can hold the place.
@@ -34,20 +33,20 @@ fn can_ask(node: &Node, place: usize) -> bool
     is_right(node.kept) && place < 4_294_967_296
 }
 
-// f of an open place.
-pub fn low_sum(record: Record) -> u32
-    requires { (record_right «record» ≡ true) × (is_open «record» ≡ true) }
-    ensures { result ≡ f «record» }
+// f of a place.
+pub fn low_sum(kept: Record) -> u32
+    requires { f kept < 2 ^ 32 }
+    ensures { result ≡ f kept }
 {
-    record.label + record.low
+    kept.label + kept.low
 }
 
-// f̂ of an open place.
-pub fn hope_sum(record: Record) -> u32
-    requires { (record_right «record» ≡ true) × (is_open «record» ≡ true) }
-    ensures { result ≡ f_hat «record» }
+// f̂ of a place.
+pub fn hope_sum(kept: Record) -> u32
+    requires { f_hat kept < 2 ^ 32 }
+    ensures { result ≡ f_hat kept }
 {
-    record.label + record.hope
+    kept.label + kept.hope
 }
 
 // Whether b × the cost is at most a × the mark.
@@ -58,11 +57,64 @@ pub fn is_within(bound: Bound, mark: u32, cost: u32) -> bool
 }
 
 // Whether a place is in the near set for the least f̂.
-pub fn is_near(state: Search, least: u32, record: Record) -> bool
-    requires { record_right «record» ≡ true }
-    ensures { result ≡ is_near state least «record» }
+pub fn is_near(state: Search, least: u32, kept: Record) -> bool
+    requires { record_right kept ≡ true }
+    ensures { result ≡ is_near state least kept }
 {
-    record.mark == 1 && is_within(state.bound, least, hope_sum(record))
+    kept.is_open() && is_within(state.bound, least, hope_sum(kept))
+}
+
+// A place's entry by f.
+pub fn by_low(kept: Record, place: u32) -> CostEntry
+    requires { f kept < 2 ^ 32 }
+    ensures { result ≡ record { cost = f kept; place = place } }
+{
+    CostEntry {
+        cost: low_sum(kept),
+        place,
+    }
+}
+
+// A place's entry by f̂.
+pub fn by_hope(kept: Record, place: u32) -> CostEntry
+    requires { f_hat kept < 2 ^ 32 }
+    ensures { result ≡ record { cost = f_hat kept; place = place } }
+{
+    CostEntry {
+        cost: hope_sum(kept),
+        place,
+    }
+}
+
+// A place's entry by rank, then by f̂.
+pub fn by_rank(kept: Record, place: u32) -> NearEntry
+    requires { f_hat kept < 2 ^ 32 }
+    ensures { result ≡ record { steps = kept.steps; cost = f_hat kept; place = place } }
+{
+    let cost = hope_sum(kept);
+    NearEntry {
+        steps: kept.steps,
+        cost,
+        place,
+    }
+}
+
+// The entry that the low queue wants of a place.
+pub fn want_low(node: Node, place: u32) -> Option<CostEntry>
+    requires { RecordLimits node.kept }
+    ensures { result ≡ low_wanted node place }
+{
+    let kept = node.kept;
+    kept.is_open().then(|| by_low(kept, place))
+}
+
+// The entry that the hope queue wants of a place.
+pub fn want_hope(node: Node, place: u32) -> Option<CostEntry>
+    requires { RecordLimits node.kept }
+    ensures { result ≡ hope_wanted node place }
+{
+    let kept = node.kept;
+    kept.is_open().then(|| by_hope(kept, place))
 }
 
 // Every open place, by f.
@@ -73,11 +125,8 @@ impl Expect<Low, Node> for LowWanted {
     ghost wanted = { λ _. asked low_wanted };
 
     fn expected(&self, node: &Node, home: usize) -> Option<CostEntry> {
-        if can_ask(node, home) && node.kept.mark == 1 {
-            Some(CostEntry {
-                cost: low_sum(node.kept),
-                place: home as u32,
-            })
+        if can_ask(node, home) {
+            want_low(*node, home as u32)
         } else {
             None
         }
@@ -92,11 +141,8 @@ impl Expect<Hope, Node> for HopeWanted {
     ghost wanted = { λ _. asked hope_wanted };
 
     fn expected(&self, node: &Node, home: usize) -> Option<CostEntry> {
-        if can_ask(node, home) && node.kept.mark == 1 {
-            Some(CostEntry {
-                cost: hope_sum(node.kept),
-                place: home as u32,
-            })
+        if can_ask(node, home) {
+            want_hope(*node, home as u32)
         } else {
             None
         }
@@ -114,15 +160,10 @@ impl Expect<Near, Node> for NearWanted {
     ghost wanted = { λ m. asked (near_wanted m.state m.least) };
 
     fn expected(&self, node: &Node, home: usize) -> Option<NearEntry> {
-        if can_ask(node, home) && is_near(self.state, self.least, node.kept) {
-            let cost = hope_sum(node.kept);
-            Some(NearEntry {
-                steps: node.kept.steps,
-                cost,
-                place: home as u32,
-            })
-        } else {
-            None
-        }
+        let kept = node.kept;
+        (can_ask(node, home) && is_near(self.state, self.least, kept)).then(|| by_rank(
+            kept,
+            home as u32,
+        ))
     }
 }

@@ -1,16 +1,12 @@
-use Rattle.std.proofs.Common.{sym, ◌∙◌}
-use Rattle.std.proofs.lemmas.Bool.{and_parts}
+use Rattle.std.proofs.Common.{ℕ, ◌<◌, length, sym, ap, ◌∙◌, subst}
+use Rattle.queue.specs.Notes.{Absent}
+use Rattle.table.specs.Order.{near_place_of}
+use Rattle.table.specs.Seats.{near_entry}
 use Rattle.table.proofs.OrderRebound.{right_node, near_room, near_absent, near_skipped, near_added, near_only, only_self}
 use Rattle.table.proofs.rebound.add_near.Goals as goal
 
 pub is_near-requires : goal.is_near-requires
 is_near-requires c = right_node c.args.table.now c.args.place c.requires.limits
-
-pub hope_sum-requires : goal.hope_sum-requires
-hope_sum-requires c = (
-  right_node c.args.table.now c.args.place c.requires.limits,
-  (and_parts _ _ (sym c.is_near.ensures ∙ c.if-is_near.true)).0,
-)
 
 pub insert-requires : goal.insert-requires
 insert-requires c =
@@ -20,15 +16,16 @@ insert-requires c =
     record {
       room = (near_room s c.args.least t p c.args.n c.requires.few.1 c.requires.near, c.requires.few.0);
       notes = c.requires.near.notes;
-      home = (c.requires.few.1, near_absent s c.args.least t p c.args.n c.requires.near);
+      home = subst (λ (h : ℕ). (h < length t) × Absent near_place_of near_entry c.args.n t h) (sym (ap near_place_of c.by_rank.ensures))
+          (c.requires.few.1, near_absent s c.args.least t p c.args.n c.requires.near);
     }
 
 pub returns-then-is_near : goal.returns-then-is_near
 returns-then-is_near c =
     let t = c.args.table.now in
     record {
-      near = near_added c.args.state c.args.least t _ c.args.place c.args.n _ c.hope_sum.result c.requires.few.1
-          (sym c.is_near.ensures ∙ c.if-is_near.true) c.requires.near c.hope_sum.ensures c.insert.ensures.queue c.insert.ensures.notes c.insert.ensures.frame;
+      near = near_added c.args.state c.args.least t _ c.args.place c.args.n _ c.by_rank.result c.requires.few.1
+          (sym c.is_near.ensures ∙ c.if-is_near.true) c.requires.near c.by_rank.ensures c.insert.ensures.queue c.insert.ensures.notes c.insert.ensures.frame;
       only = near_only t _ _ c.insert.ensures.frame;
     }
 
