@@ -12,7 +12,7 @@ use crate::answer::JobAnswer;
 use floors::floor::Floor;
 use floors::guided::GuidedFloor;
 use search::fault::SearchFault;
-use search::questions::ask_begin;
+use search::questions::{GREATEST_BUDGET, ask_begin};
 use search::running::Running;
 use search::states::Advanced;
 use search_model::bound::Bound;
@@ -30,7 +30,7 @@ fn ask<F: Floor>(
     ensures { refusal search_number result ≡ first_no (job_questions (F.meaning floor.now) start bound budget table.now room) }
 {
     ask_begin(floor, start, bound, table)?;
-    if budget > 65_535 {
+    if budget > GREATEST_BUDGET {
         return Err(SearchFault::BudgetTooLarge);
     }
     if room < floor.places() as usize {

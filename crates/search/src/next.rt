@@ -6,6 +6,9 @@ use floors::floor::Floor;
 use frontier::choose::Choice;
 use std::ops::ControlFlow;
 
+// The greatest total.
+pub const GREATEST_TOTAL: u64 = 1_099_511_627_775;
+
 // How an advance ends: nothing is open, a goal is chosen, or the budget is used up.
 #[derive(Clone, Copy)]
 pub enum End {
@@ -42,9 +45,6 @@ pub fn decide<F: Floor>(
         Some(choice) => ControlFlow::Break(End::More(choice)),
     }
 }
-
-// The greatest total.
-const GREATEST_TOTAL: u64 = 1_099_511_627_775;
 
 // A total with one more expansion; it stops at the greatest.
 pub fn raise_total(total: u64) -> u64

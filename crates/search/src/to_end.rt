@@ -2,23 +2,20 @@
 ghost use Rattle.std.specs.Prelude.{◌≡◌, OnOk, ◌≢◌};
 ghost use Rattle.floors.specs.Guided.{described};
 ghost use Rattle.search_model.specs.Advance.{More as AnswersMore};
-ghost use Rattle.search.specs.Reports.{EndDone, end_budget};
+ghost use Rattle.search.specs.Reports.{EndDone};
 ghost use Rattle.search.specs.Repeating.{SameAsRepeated};
 ghost use Rattle.search.specs.Told.{HandsBack, advanced_as, ended_as, tells, tells_or_back};
 ghost use Rattle.table.specs.Table.{records};
 
 use crate::fault::SearchFault;
+use crate::next::GREATEST_TOTAL;
 use crate::running::Running;
 use crate::states::{Advanced, Ended, Refused};
 use floors::guided::GuidedFloor;
 use table::node::Node;
 
 // More expansions than any search makes over a table in order: labels only fall.
-fn enough() -> u64
-    ensures { result ≡ end_budget }
-{
-    1_099_511_627_775
-}
+const END_BUDGET: u64 = GREATEST_TOTAL;
 
 // An answer that is not more.
 fn ended(answer: Advanced) -> Ended
@@ -43,7 +40,7 @@ impl Running {
         ensures same { OnOk result (SameAsRepeated (described F.GuidedFloor floor.now) self.now.state (records table.old)) }
     {
         let queued = self.ask_end(floor, table)?;
-        let stopped = self.turn_table(floor, enough(), queued, table);
+        let stopped = self.turn_table(floor, END_BUDGET, queued, table);
         Ok(ended(self.answer(stopped)))
     }
 
