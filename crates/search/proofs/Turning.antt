@@ -15,7 +15,6 @@ use Rattle.search_model.proofs.Loops.{Left, left_whole, left_barren, left_settle
 use Rattle.frontier.specs.declared.choose.Choice.{Choice}
 use Rattle.frontier.specs.declared.frontier.Frontier.{Frontier}
 use Rattle.table.specs.declared.node.Node.{Node}
-use Rattle.table.specs.declared.order.Queued.{Queued}
 use Rattle.frontier.specs.Choose.{Chosen, Picks}
 use Rattle.frontier.specs.Endings.{Ended}
 use Rattle.frontier.specs.Frontier.{Prepared}

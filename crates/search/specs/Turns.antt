@@ -1,14 +1,12 @@
 -- The turns of an advance over a table.
-use Rattle.std.specs.Prelude.{◌≡◌, ℕ, ◌≤◌, true, List, length}
+use Rattle.std.specs.Prelude.{◌≡◌, ℕ, true, List}
 use Rattle.floors.specs.Guided.{Guided}
-use Rattle.floors.specs.Meaning.{Meaning}
 use Rattle.search_model.specs.declared.records.Record.{Record}
 use Rattle.search_model.specs.declared.search.Search.{Search}
 use Rattle.search_model.specs.Advance.{expansions, going}
 use Rattle.table.specs.declared.node.Node.{Node}
-use Rattle.table.specs.declared.order.Queued.{Queued}
 use Rattle.frontier.specs.Frontier.{Prepared}
-use Rattle.table.specs.Order.{InOrder, in_order}
+use Rattle.table.specs.Order.{in_order}
 use Rattle.table.specs.Table.{records}
 use Rattle.search.specs.declared.states.Report.{Report}
 use Rattle.search.specs.declared.turns.Stopped.{Stopped}
