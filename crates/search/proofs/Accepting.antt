@@ -3,6 +3,7 @@ use Rattle.std.proofs.Common.{◌≡◌, ℕ, ◌≤◌, Bool, true, false, cond
 use Rattle.std.proofs.lemmas.Bool.{true≢false, eqb-true}
 use Rattle.floors.specs.Guided.{Guided}
 use Rattle.floors.specs.Questions.{first_no, unless}
+use Rattle.floors.proofs.Asked.{all_yes}
 use Rattle.search_model.specs.declared.bound.Bound.{Bound}
 use Rattle.search_model.specs.declared.records.Record.{Record}
 use Rattle.search_model.specs.declared.search.Search.{Search}
@@ -52,13 +53,6 @@ call_done {first = first} {value = value} {after = after} {t = t} none is kept o
   ordered = λ _. order;
 }
 
--- where the questions of a begin are answered yes, the table has a node for each place
-table_sized : (x y z : Bool) → ◌≡◌ {A = Option ℕ} None (cond x (cond y (cond z None (Some 33)) (Some 32)) (Some 31)) → z ≡ true
-table_sized true true true e = refl
-table_sized true true false e = let w : ◌≡◌ {A = ℕ} 0 1 = cc in absurd (omega arith)
-table_sized true false z e = let w : ◌≡◌ {A = ℕ} 0 1 = cc in absurd (omega arith)
-table_sized false y z e = let w : ◌≡◌ {A = ℕ} 0 1 = cc in absurd (omega arith)
-
 pub begin_done :
     (g : Guided) (start : ℕ) (bound : Bound) (size : ℕ) (first : Record) (t t' : List Node)
     → None ≡ first_no (begin_questions g.floor start bound t)
@@ -69,7 +63,8 @@ pub begin_done :
     → ((s : Search) → s.bound.b ≤ s.bound.a → InOrder s 1 1 t')
     → Begun g start bound t (told (record { start = start; bound = bound; size = size; total = 0 })) t'
 begin_done g start bound size first t t' none valid sized is kept order =
-    let long : length t ≡ g.floor.size = eqb-true _ _ (table_sized (ltb start g.floor.size) (bound_valid bound) (eqb (length t) g.floor.size) none) in
+    let (_, (_, (sized_table, _))) = all_yes (begin_questions g.floor start bound t) (sym none) in
+    let long : length t ≡ g.floor.size = eqb-true _ _ sized_table in
     call_done none
     (ap (λ n. record { start = start; bound = bound; size = n; total = 0 }) sized)
     (kept ∙ ap (set (replicate (length t) blank) start) is ∙ ap (λ n. set (replicate n blank) start (labelled g start 0 start 0)) long)
