@@ -3,6 +3,7 @@ use Rattle.std.proofs.Common.{◌≡◌, ℕ, Bool, true, false, cond, eqb, ltb,
 use Rattle.std.proofs.lemmas.Bool.{true≢false, eqb-true}
 use Rattle.floors.specs.Guided.{Guided}
 use Rattle.floors.specs.Questions.{first_no, unless}
+use Rattle.floors.proofs.Asked.{AllYes, all_yes}
 use Rattle.search_model.specs.declared.bound.Bound.{Bound}
 use Rattle.search_model.specs.declared.search.Search.{Search}
 use Rattle.search_model.specs.Advance.{Answer, Barren, Settled, More, Outcome, going}
@@ -14,7 +15,7 @@ use Rattle.table.specs.Table.{records}
 use Rattle.reading.specs.Trails.{measured, pair_of, written}
 use Rattle.search.specs.Calls.{Told, told, refused, asked, Begun, ReadDone}
 use Rattle.search.specs.Reports.{AdvanceReport, advance_report_of, AdvanceReported}
-use Rattle.search.specs.Questions.{bound_valid, advance_questions, read_questions}
+use Rattle.search.specs.Questions.{begin_questions, advance_questions, read_questions}
 use Rattle.search.specs.Runs.{AnswerPromise}
 use Rattle.search.specs.CallRuns.{advanced, read, done, by_advance, by_read, ReportPromise, CallsGuaranteed, CallsKept}
 use Rattle.search.specs.Told.{advanced_as, reported}
@@ -27,20 +28,6 @@ use Rattle.job.specs.declared.answer.JobAnswer.{JobAnswer}
 use Rattle.job.specs.Floors.{answer_as, answered, job_outcome, settled_route, FloorJobDone}
 use Rattle.job.specs.Kept.{RouteKept, JobKept}
 use Rattle.job.specs.Questions.{job_questions}
-
--- Five questions that are answered yes.
-record AllYes (a b c d e : Bool) : Type 0 where
-  begins : ◌≡◌ {A = Option ℕ} (cond a (cond b (cond c None (Some 33)) (Some 32)) (Some 31)) None
-  spends : d ≡ true
-  room : e ≡ true
-
-all_yes : (a b c d e : Bool) → ◌≡◌ {A = Option ℕ} None (cond a (cond b (cond c (cond d (cond e None (Some 38)) (Some 35)) (Some 33)) (Some 32)) (Some 31)) → AllYes a b c d e
-all_yes true true true true true h = record { begins = refl; spends = refl; room = refl }
-all_yes true true true true false h = let w : ◌≡◌ {A = ℕ} 0 1 = cc in absurd (omega arith)
-all_yes true true true false e h = let w : ◌≡◌ {A = ℕ} 0 1 = cc in absurd (omega arith)
-all_yes true true false d e h = let w : ◌≡◌ {A = ℕ} 0 1 = cc in absurd (omega arith)
-all_yes true false c d e h = let w : ◌≡◌ {A = ℕ} 0 1 = cc in absurd (omega arith)
-all_yes false b c d e h = let w : ◌≡◌ {A = ℕ} 0 1 = cc in absurd (omega arith)
 
 -- A question that is answered yes is not the first no.
 not_35 : (a b d c : Bool) → ◌≡◌ {A = Option ℕ} (cond a (cond b (cond d (cond c None (Some 36)) (Some 35)) (Some 33)) (Some 34)) (Some 35) → d ≡ true → ⊥
@@ -57,13 +44,6 @@ not_38 true true false d h e = let w : ◌≡◌ {A = ℕ} 37 38 = cc in omega a
 not_38 true false c d h e = let w : ◌≡◌ {A = ℕ} 33 38 = cc in omega arith
 not_38 false b c d h e = let w : ◌≡◌ {A = ℕ} 34 38 = cc in omega arith
 
--- Where all questions of a read are answered yes there is a route.
-route_there : (a b c d : Bool) → ◌≡◌ {A = Option ℕ} (cond a (cond b (cond c (cond d None (Some 38)) (Some 37)) (Some 33)) (Some 34)) None → c ≡ true
-route_there true true true d h = refl
-route_there true true false d h = let w : ◌≡◌ {A = ℕ} 0 1 = cc in absurd (omega arith)
-route_there true false c d h = let w : ◌≡◌ {A = ℕ} 0 1 = cc in absurd (omega arith)
-route_there false b c d h = let w : ◌≡◌ {A = ℕ} 0 1 = cc in absurd (omega arith)
-
 measured_is : (w : Option Trail) (pair : ℕ × ℕ) → is_some w ≡ true → pair ≡ pair_of w → Some pair ≡ measured w
 measured_is None pair h e = absurd (true≢false (sym h))
 measured_is (Some w) pair h e = ap Some e
@@ -72,8 +52,17 @@ module _
     (g : Guided) (start : ℕ) (bound : Bound) (budget : ℕ) (t : List Node) (list : List ℕ)
     (none : None ≡ first_no (job_questions g.floor start bound budget t (length list)))
   where
-    yes : AllYes (ltb start g.floor.size) (bound_valid bound) (eqb (length t) g.floor.size) (leb budget 65535) (leb g.floor.size (length list))
-    yes = all_yes (ltb start g.floor.size) (bound_valid bound) (eqb (length t) g.floor.size) (leb budget 65535) (leb g.floor.size (length list)) none
+    yes : AllYes (job_questions g.floor start bound budget t (length list))
+    yes = all_yes (job_questions g.floor start bound budget t (length list)) (sym none)
+
+    begins : first_no (begin_questions g.floor start bound t) ≡ None
+    begins = let (place, (valid, (sized, _))) = yes in rw (place, valid, sized)
+
+    spends : leb budget 65535 ≡ true
+    spends = yes.1.1.1.0
+
+    roomy : leb g.floor.size (length list) ≡ true
+    roomy = yes.1.1.1.1.0
 
     o : Outcome
     o = job_outcome g start bound budget
@@ -81,19 +70,19 @@ module _
     -- The begin is accepted.
     pub never_at_begin : (k : ℕ) (t₁ : List Node) → Begun g start bound t (refused k) t₁ → ⊥
     never_at_begin k t₁ begun =
-        let is : refused k ≡ told (first_search g start bound) = begun.said ∙ ap (λ no. asked no (first_search g start bound)) yes.begins in
+        let is : refused k ≡ told (first_search g start bound) = begun.said ∙ ap (λ no. asked no (first_search g start bound)) begins in
         let w : ◌≡◌ {A = ℕ} 0 1 = cc in
         omega arith
 
     module _ (s : Search) (t₁ : List Node) (begun : Begun g start bound t (told s) t₁) (kept : CallsKept g start bound (told s) t₁) where
       is_first : s ≡ first_search g start bound
-      is_first = let is : told s ≡ told (first_search g start bound) = begun.said ∙ ap (λ no. asked no (first_search g start bound)) yes.begins in cc
+      is_first = let is : told s ≡ told (first_search g start bound) = begun.said ∙ ap (λ no. asked no (first_search g start bound)) begins in cc
 
       is_outcome : going g budget s (records t₁) ≡ o
       unfolding o
       is_outcome =
           ap (λ x. going g budget x (records t₁)) is_first
-          ∙ ap (going g budget (first_search g start bound)) (begun.left ∙ ap (λ no. unless no (first_records g start) (records t)) yes.begins)
+          ∙ ap (going g budget (first_search g start bound)) (begun.left ∙ ap (λ no. unless no (first_records g start) (records t)) begins)
 
       -- The advance is accepted.
       advance_none : (a : Told AdvanceReport) (t₂ : List Node) → AdvanceReported g s budget t₁ a t₂ → first_no (advance_questions g.floor s budget t₁) ≡ None
@@ -104,7 +93,7 @@ module _
           by (Some k) e =
               let is : a ≡ refused k = did.said ∙ ap (λ x. asked x (advance_report_of (going g budget s (records t₁)))) e in
               let only : (k ≡ 35) × Unit {0} = subst (λ x. CallsGuaranteed g.floor start bound 0 (advanced budget x ∷ [])) is (kept (advanced budget a ∷ []) _ (by_advance budget s t₁ a t₂ did done)) in
-              absurd (not_35 (eqb g.floor.size s.size) (eqb (length t₁) s.size) (leb budget 65535) (in_order s t₁) (e ∙ ap Some only.0) yes.spends)
+              absurd (not_35 (eqb g.floor.size s.size) (eqb (length t₁) s.size) (leb budget 65535) (in_order s t₁) (e ∙ ap Some only.0) spends)
 
       pub never_at_advance : (k : ℕ) (t₂ : List Node) → AdvanceReported g s budget t₁ (refused k) t₂ → ⊥
       never_at_advance k t₂ did =
@@ -188,7 +177,7 @@ module _
                   subst (λ y. CallsGuaranteed g.floor start bound total (read list y list₂ ∷ [])) is
                   (kept (advanced budget (told x) ∷ read list a list₂ ∷ []) _ (by_advance budget s t₁ (told x) t₂ did (by_read n s₂ t₂ list a list₂ Did_Read done))).1 in
                   absurd (not_38 (eqb g.floor.size s₂.size) (eqb (length t₂) s₂.size) (is_some (read_route g.floor s₂ (records t₂) n)) (leb s₂.size (length list)) (e ∙ ap Some only.0)
-                  (λ same. subst (λ size. leb size (length list) ≡ true) (eqb-true _ _ same) yes.room))
+                  (λ same. subst (λ size. leb size (length list) ≡ true) (eqb-true _ _ same) roomy))
 
           never_at_read : (k : ℕ) (list₂ : List ℕ) → ReadDone g.floor s₂ n t₂ list (refused k) list₂ → ⊥
           never_at_read k list₂ Did_Read =
@@ -205,7 +194,7 @@ module _
             is_pair =
                 let is : told pair ≡ told (pair_of (read_route g.floor s₂ (records t₂) n)) = Did_Read.said ∙ ap (λ y. asked y (pair_of (read_route g.floor s₂ (records t₂) n))) reads in
                 measured_is (read_route g.floor s₂ (records t₂) n) pair
-                (route_there (eqb g.floor.size s₂.size) (eqb (length t₂) s₂.size) (is_some (read_route g.floor s₂ (records t₂) n)) (leb s₂.size (length list)) reads)
+                (all_yes (read_questions g.floor s₂ n t₂ (length list)) reads).1.1.0
                 (cc)
 
             -- the route read is the outcome's

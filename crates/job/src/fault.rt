@@ -13,7 +13,7 @@ pub enum Layer {
     Search,
 }
 
-#[derive(Clone, Copy)]
+#[derive(Clone, Copy, PartialEq, Eq, Debug)]
 pub enum JobFault {
     Layout(LayoutFault),
     Search(SearchFault),

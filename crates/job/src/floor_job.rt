@@ -1,6 +1,6 @@
 // A job over a floor.
 ghost use Rattle.std.specs.Prelude.{◌≡◌, IfOk};
-ghost use Rattle.floors.specs.Guided.{guided};
+ghost use Rattle.floors.specs.Guided.{described};
 ghost use Rattle.floors.specs.Questions.{first_no, refusal};
 ghost use Rattle.search.specs.Faults.{search_number};
 ghost use Rattle.search.specs.Told.{tells};
@@ -12,7 +12,7 @@ use crate::answer::JobAnswer;
 use floors::floor::Floor;
 use floors::guided::GuidedFloor;
 use search::fault::SearchFault;
-use search::questions::ask_begin;
+use search::questions::{GREATEST_BUDGET, ask_begin};
 use search::running::Running;
 use search::states::Advanced;
 use search_model::bound::Bound;
@@ -27,10 +27,10 @@ fn ask<F: Floor>(
     table: &[Node],
     room: usize,
 ) -> Result<(), SearchFault>
-    ensures { refusal search_number result ≡ first_no (job_questions (F.Floor.meaning floor.now) start bound budget table.now room) }
+    ensures { refusal search_number result ≡ first_no (job_questions (F.meaning floor.now) start bound budget table.now room) }
 {
     ask_begin(floor, start, bound, table)?;
-    if budget > 65_535 {
+    if budget > GREATEST_BUDGET {
         return Err(SearchFault::BudgetTooLarge);
     }
     if room < floor.places() as usize {
@@ -48,8 +48,8 @@ pub fn search_floor<F: GuidedFloor>(
     table: &mut [Node],
     list: &mut [u32],
 ) -> Result<JobAnswer, SearchFault>
-    ensures done { FloorJobDone (guided (F.Floor.meaning floor.now) (F.GuidedFloor.guesses floor.now)) start bound budget table.old list.old (tells answer_as result) table.new list.new }
-    ensures kept { IfOk result (λ x. JobKept (guided (F.Floor.meaning floor.now) (F.GuidedFloor.guesses floor.now)) start bound budget (answer_as x) table.new list.old list.new) }
+    ensures done { FloorJobDone (described F.GuidedFloor floor.now) start bound budget table.old list.old (tells answer_as result) table.new list.new }
+    ensures kept { IfOk result (λ x. JobKept (described F.GuidedFloor floor.now) start bound budget (answer_as x) table.new list.old list.new) }
 {
     ask(floor, start, bound, budget, table, list.len())?;
     let running = Running::begin(floor, start, bound, table)?;

@@ -39,6 +39,7 @@ pub fn run(
     ensures kept { IfOk result (λ j. JobKept (described layout.items) start bound budget (answer_as j.answer) table.new list.old list.new) }
 {
     let floor = intake(layout)?;
+    // Stays: both arms take the floor, and of two closures only one could.
     match search_floor(&floor, start, bound, budget, table, list) {
         Ok(answer) => Ok(Job { floor, answer }),
         Err(fault) => Err(hand_back(floor, fault)),

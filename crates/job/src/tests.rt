@@ -28,10 +28,7 @@ fn job(
     table: &mut [Node],
     list: &mut [u32],
 ) -> Result<Job, Fail> {
-    match run(sample(heap, 3)?, 0, bound, budget, table, list) {
-        Ok(job) => Ok(job),
-        Err(_) => Err(Fail::new("refused")),
-    }
+    run(sample(heap, 3)?, 0, bound, budget, table, list).map_err(|_| Fail::new("refused"))
 }
 
 #[test]
@@ -60,98 +57,79 @@ fn goes_on(rt: HostRuntime) -> Result<(), Fail> {
     let JobAnswer::More(running, _) = answer else {
         return Err(Fail::new("not more"));
     };
-    match running.advance_to_end(&floor, &mut table) {
-        Ok(Ended::Settled(settled, report)) => {
-            assert_eq!(rt; report.low_mark, Some(6));
-            assert!(rt; settled.read(&floor, &table, &mut list).is_ok());
-            assert_eq!(rt; list, [0, 2, 4, 5, 9, 9]);
-            Ok(())
-        }
-        _ => Err(Fail::new("not settled")),
-    }
+    let Ok(Ended::Settled(settled, report)) = running.advance_to_end(&floor, &mut table) else {
+        return Err(Fail::new("not settled"));
+    };
+    assert_eq!(rt; report.low_mark, Some(6));
+    assert!(rt; settled.read(&floor, &table, &mut list).is_ok());
+    assert_eq!(rt; list, [0, 2, 4, 5, 9, 9]);
+    Ok(())
 }
 
-// Turned down by that layer, number and record, with the layout handed back and the list untouched.
-fn refuses(
-    rt: &impl Abort,
-    heap: Global,
+// A job with its low estimate at place 2, and by which layer, number and record it is turned down.
+#[derive(Clone, Copy)]
+struct Case {
     low: u32,
     start: u32,
     bound: Bound,
     budget: u32,
-    list: &mut [u32],
-    expected: (Layer, u32, usize),
-) -> Result<(), Fail> {
-    let mut table = [Node::blank(); 6];
-    match run(sample(heap, low)?, start, bound, budget, &mut table, list) {
-        Ok(_) => Err(Fail::new("accepted")),
-        Err(refused) => {
-            assert_eq!(rt; refused.fault.layer(), expected.0);
-            assert_eq!(rt; refused.fault.number(), expected.1);
-            assert_eq!(rt; refused.fault.record(), expected.2);
-            assert_eq!(rt; table[0].kept.mark, 0);
-            assert!(rt; refused.layout.as_slice() == sample(heap, low)?.as_slice());
-            Ok(())
-        }
-    }
+    fault: (Layer, u32, usize),
 }
 
+// Turned down so, with the layout handed back and the list untouched.
+fn refuses(rt: &impl Abort, heap: Global, case: Case, list: &mut [u32]) -> Result<(), Fail> {
+    let Case {
+        low,
+        start,
+        bound,
+        budget,
+        fault,
+    } = case;
+    let mut table = [Node::blank(); 6];
+    let Err(refused) = run(sample(heap, low)?, start, bound, budget, &mut table, list) else {
+        return Err(Fail::new("accepted"));
+    };
+    let told = refused.fault;
+    assert_eq!(rt; (told.layer(), told.number(), told.record()), fault);
+    assert_eq!(rt; table[0].kept.mark, 0);
+    assert!(rt; refused.layout.as_slice() == sample(heap, low)?.as_slice());
+    Ok(())
+}
+
+// Each question is the first that is answered no: what fails it is put right from case to case.
 #[test]
 fn refusals(rt: HostRuntime) -> Result<(), Fail> {
-    let heap = rt.alloc();
     let mut list = [9; 5];
-    let fine = Bound { a: 2, b: 1 };
-    let bad = Bound { a: 2, b: 3 };
-    refuses(
-        &rt,
-        heap,
-        6,
-        6,
-        bad,
-        65_536,
-        &mut list,
-        (Layer::Layout, 9, 10),
-    )?;
-    refuses(
-        &rt,
-        heap,
-        5,
-        6,
-        bad,
-        65_536,
-        &mut list,
-        (Layer::Search, 31, 0),
-    )?;
-    refuses(
-        &rt,
-        heap,
-        5,
-        5,
-        bad,
-        65_536,
-        &mut list,
-        (Layer::Search, 32, 0),
-    )?;
-    refuses(
-        &rt,
-        heap,
-        5,
-        5,
-        fine,
-        65_536,
-        &mut list,
-        (Layer::Search, 35, 0),
-    )?;
-    refuses(
-        &rt,
-        heap,
-        5,
-        5,
-        fine,
-        65_535,
-        &mut list,
-        (Layer::Search, 38, 0),
-    )?;
+    let first = Case {
+        low: 6,
+        start: 6,
+        bound: Bound { a: 2, b: 3 },
+        budget: 65_536,
+        fault: (Layer::Layout, 9, 10),
+    };
+    let second = Case {
+        low: 5,
+        fault: (Layer::Search, 31, 0),
+        ..first
+    };
+    let third = Case {
+        start: 5,
+        fault: (Layer::Search, 32, 0),
+        ..second
+    };
+    let fourth = Case {
+        bound: Bound { a: 2, b: 1 },
+        fault: (Layer::Search, 35, 0),
+        ..third
+    };
+    let fifth = Case {
+        budget: 65_535,
+        fault: (Layer::Search, 38, 0),
+        ..fourth
+    };
+    for case in [first, second, third, fourth, fifth] {
+        refuses(&rt, rt.alloc(), case, &mut list)?;
+    }
     assert_eq!(rt; list, [9; 5]);
     Ok(())
 }

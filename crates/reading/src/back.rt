@@ -29,11 +29,10 @@ fn node_at(table: &[Node], place: u32) -> Node
     ensures on { place < length table.now → result ≡ slice_index_or table.now place blank_node }
     ensures off { length table.now ≤ place → result ≡ blank_node }
 {
-    if (place as usize) < table.len() {
-        table[place as usize]
-    } else {
-        Node::blank()
-    }
+    table
+        .get(place as usize)
+        .copied()
+        .unwrap_or_else(Node::blank)
 }
 
 // The record of a place; blank off the table.
@@ -48,23 +47,14 @@ fn by_leg(parent: u32, place: u32, leg: Option<Leg>) -> Back
     ensures { result ≡ leg_back parent place leg }
 {
     match leg {
-        Some(leg) => {
-            if leg.target == place {
-                Back::Parent(Step {
-                    parent,
-                    cost: leg.cost,
-                })
-            } else {
-                Back::Lost
-            }
-        }
-        None => Back::Lost,
+        Some(Leg { target, cost }) if target == place => Back::Parent(Step { parent, cost }),
+        _ => Back::Lost,
     }
 }
 
 // One step back from a place, by its record.
 pub fn step_back<F: Floor>(floor: &F, start: u32, table: &[Node], place: u32) -> Back
-    ensures { result ≡ step_back (F.Floor.meaning floor.now) start (records table.now) place }
+    ensures { result ≡ step_back (F.meaning floor.now) start (records table.now) place }
 {
     if place == start {
         return Back::Arrived;

@@ -17,7 +17,7 @@ pub fn measure<F: Floor>(
     goal: u32,
 ) -> Option<(usize, u32)>
     requires { most ≤ 4096 }
-    ensures { result ≡ measured (follow (F.Floor.meaning floor.now) start (records table.now) most goal) }
+    ensures { result ≡ measured (follow (F.meaning floor.now) start (records table.now) most goal) }
 {
     let mut place = goal;
     let mut cost = 0;

@@ -25,6 +25,7 @@ pub fn write_places(table: &[Node], goal: u32, count: usize, list: &mut [u32])
     ensures { (m : Meaning) (start most cost : ℕ) → measured (follow m start (records table.now) most goal) ≡ Some (count, cost) → list.new ≡ written (follow m start (records table.now) most goal) list.old }
 {
     let mut place = goal;
+    // Stays: after a loop over `list[..count].iter_mut().rev()` a proof knows no element of the list (tried).
     for slot in (0..count).rev() {
         place = write_place(table, place, slot, list);
     }

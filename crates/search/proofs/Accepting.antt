@@ -3,6 +3,7 @@ use Rattle.std.proofs.Common.{◌≡◌, ℕ, ◌≤◌, Bool, true, false, cond
 use Rattle.std.proofs.lemmas.Bool.{true≢false, eqb-true}
 use Rattle.floors.specs.Guided.{Guided}
 use Rattle.floors.specs.Questions.{first_no, unless}
+use Rattle.floors.proofs.Asked.{all_yes}
 use Rattle.search_model.specs.declared.bound.Bound.{Bound}
 use Rattle.search_model.specs.declared.records.Record.{Record}
 use Rattle.search_model.specs.declared.search.Search.{Search}
@@ -11,11 +12,11 @@ use Rattle.search_model.specs.Begin.{first_records, first_search, rebounded}
 use Rattle.search_model.specs.Expansion.{labelled}
 use Rattle.search_model.specs.Records.{blank}
 use Rattle.table.specs.declared.node.Node.{Node}
-use Rattle.table.specs.Order.{InOrder}
+use Rattle.table.specs.Order.{InOrder, in_order}
 use Rattle.table.specs.Table.{records}
 use Rattle.table.proofs.OrderLaws.{order_tested}
-use Rattle.search.specs.Calls.{told, asked, Begun, ReboundDone}
-use Rattle.search.specs.Reports.{advance_report_of, TurnsDone}
+use Rattle.search.specs.Calls.{told, asked, CallDone, Begun, ReboundDone}
+use Rattle.search.specs.Reports.{AdvanceReport, TurnsDone}
 use Rattle.search.specs.Turns.{TurnsOrdered, stopped_as}
 use Rattle.search.specs.declared.turns.Stopped.{Stopped}
 use Rattle.search.specs.Questions.{bound_valid, begin_questions, rebound_questions}
@@ -37,12 +38,20 @@ rebound_done s bound opened nears t t' none kept order = record {
   ordered = λ _. order_tested (rebounded bound s) t' opened nears order;
 }
 
--- where the questions of a begin are answered yes, the table has a node for each place
-table_sized : (x y z : Bool) → ◌≡◌ {A = Option ℕ} None (cond x (cond y (cond z None (Some 33)) (Some 32)) (Some 31)) → z ≡ true
-table_sized true true true e = refl
-table_sized true true false e = let w : ◌≡◌ {A = ℕ} 0 1 = cc in absurd (omega arith)
-table_sized true false z e = let w : ◌≡◌ {A = ℕ} 0 1 = cc in absurd (omega arith)
-table_sized false y z e = let w : ◌≡◌ {A = ℕ} 0 1 = cc in absurd (omega arith)
+-- A call of which no question is answered no.
+call_done :
+    {A : Type 0} {first : Option ℕ} {value a : A} {after : List Record} {s : Search} {t t' : List Node}
+    → None ≡ first
+    → a ≡ value
+    → records t' ≡ after
+    → in_order s t' ≡ true
+    → CallDone first value after s t (told a) t'
+call_done {first = first} {value = value} {after = after} {t = t} none is kept order = record {
+  said = ap told is ∙ ap (λ x. asked x value) none;
+  left = kept ∙ ap (λ x. unless x after (records t)) none;
+  same = not_refused first none;
+  ordered = λ _. order;
+}
 
 pub begin_done :
     (g : Guided) (start : ℕ) (bound : Bound) (size : ℕ) (first : Record) (t t' : List Node)
@@ -54,28 +63,21 @@ pub begin_done :
     → ((s : Search) → s.bound.b ≤ s.bound.a → InOrder s 1 1 t')
     → Begun g start bound t (told (record { start = start; bound = bound; size = size; total = 0 })) t'
 begin_done g start bound size first t t' none valid sized is kept order =
-    let long : length t ≡ g.floor.size = eqb-true _ _ (table_sized (ltb start g.floor.size) (bound_valid bound) (eqb (length t) g.floor.size) none) in
-    record {
-      said = rw (sized, sym none);
-      left =
-          kept ∙ ap (set (replicate (length t) blank) start) is ∙ ap (λ n. set (replicate n blank) start (labelled g start 0 start 0)) long
-          ∙ ap (λ x. unless x (first_records g start) (records t)) none;
-      same = not_refused (first_no (begin_questions g.floor start bound t)) none;
-      ordered = λ _. order_tested (first_search g start bound) t' 1 1 (order (first_search g start bound) valid);
-    }
+    let (_, (_, (sized_table, _))) = all_yes (begin_questions g.floor start bound t) (sym none) in
+    let long : length t ≡ g.floor.size = eqb-true _ _ sized_table in
+    call_done none
+    (ap (λ n. record { start = start; bound = bound; size = n; total = 0 }) sized)
+    (kept ∙ ap (set (replicate (length t) blank) start) is ∙ ap (λ n. set (replicate n blank) start (labelled g start 0 start 0)) long)
+    (order_tested (first_search g start bound) t' 1 1 (order (first_search g start bound) valid))
 
--- Turns up to a budget, where no question is answered no.
+-- Turns up to a budget, where no question is answered no, and what is told of them.
 pub turns_done :
-    {g : Guided} {s : Search} {budget whole : ℕ} {first : Option ℕ} {t : List Node} {r : Stopped} {t' : List Node}
+    {g : Guided} {s : Search} {budget whole : ℕ} {first : Option ℕ} {t : List Node} {r : Stopped} {t' : List Node} {a : AdvanceReport}
     → budget ≡ whole
     → None ≡ first
     → TurnsOrdered g s budget t r t'
-    → TurnsDone g s whole first t (told (stopped_as s r)) t'
-turns_done {g = g} {s = s} {whole = whole} {first = first} {t = t} {r = r} {t' = t'} same none h =
+    → a ≡ stopped_as s r
+    → TurnsDone g s whole first t (told a) t'
+turns_done {g = g} {s = s} {whole = whole} {first = first} {t = t} {r = r} {t' = t'} same none h is =
     let done : TurnsOrdered g s whole t r t' = subst (λ n. TurnsOrdered g s n t r t') same h in
-    record {
-      said = ap told done.said ∙ ap (λ x. asked x (advance_report_of (going g whole s (records t)))) none;
-      left = done.left ∙ ap (λ x. unless x (going g whole s (records t)).records (records t)) none;
-      same = not_refused first none;
-      ordered = λ _. done.ordered;
-    }
+    call_done none (is ∙ done.said) done.left done.ordered

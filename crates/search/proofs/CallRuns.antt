@@ -5,6 +5,7 @@ use Rattle.std.proofs.lemmas.Bool.{eq-eqb, leb-true, ltb-true, and_parts}
 use Rattle.floors.specs.Guided.{Guided, SoundGuided}
 use Rattle.floors.specs.Meaning.{Meaning}
 use Rattle.floors.specs.Questions.{first_no, unless}
+use Rattle.floors.proofs.Asked.{all_yes}
 use Rattle.search_model.specs.declared.bound.Bound.{Bound}
 use Rattle.search_model.specs.declared.records.Record.{Record}
 use Rattle.search_model.specs.declared.search.Search.{Search}
@@ -41,12 +42,6 @@ valid_bound bound e =
     let first = and_parts (leb 1 bound.b) (leb bound.b bound.a && leb bound.a 10000) e in
     let second = and_parts (leb bound.b bound.a) (leb bound.a 10000) first.1 in
     record { positive = leb-true _ _ first.0; ordered = leb-true _ _ second.0 }
-
--- where three questions are answered yes, the first two are
-all_yes : (x y z : Bool) → ◌≡◌ {A = Option ℕ} (cond x (cond y (cond z None (Some 33)) (Some 32)) (Some 31)) None → (x ≡ true) × (y ≡ true)
-all_yes true true z e = (refl, refl)
-all_yes true false z e = let w : ◌≡◌ {A = ℕ} 0 1 = cc in absurd (omega arith)
-all_yes false y z e = let w : ◌≡◌ {A = ℕ} 0 1 = cc in absurd (omega arith)
 
 module _ (g : Guided) (sound : SoundGuided g) (start : ℕ) where
   -- of the questions about the floor and the table every one is answered yes
@@ -260,7 +255,7 @@ guarantee g start bound t a t' sound did = by (first_no (begin_questions g.floor
     by : (no : Option ℕ) → first_no (begin_questions g.floor start bound t) ≡ no → CallsKept g start bound a t'
     by (Some k) e = subst (λ x. CallsKept g start bound x t') (sym (did.said ∙ ap (λ x. asked x (first_search g start bound)) e)) tt
     by None e =
-        let (place, valid) = all_yes (ltb start g.floor.size) (bound_valid bound) (eqb (length t) g.floor.size) e in
+        let (place, (valid, _)) = all_yes (begin_questions g.floor start bound t) e in
         let after : records t' ≡ first_records g start = did.left ∙ ap (λ x. unless x (first_records g start) (records t)) e in
         let begun : Standing g start bound 0 (first_search g start bound) (first_records g start) =
         record { reached = begin_reaches g sound start (ltb-true _ _ place) bound (valid_bound bound valid); start_is = refl; bound_is = refl; total_is = refl } in

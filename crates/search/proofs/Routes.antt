@@ -3,6 +3,7 @@ use Rattle.std.proofs.Common.{◌≡◌, ℕ, ◌≤◌, Bool, true, false, cond
 use Rattle.std.proofs.lemmas.Bool.{le-leb}
 use Rattle.floors.specs.Meaning.{Meaning}
 use Rattle.floors.specs.Questions.{first_no, unless}
+use Rattle.floors.proofs.Asked.{all_yes}
 use Rattle.reading.specs.Trails.{measured, pair_of, written}
 use Rattle.reading.proofs.Measuring.{measured_some, measured_pair}
 use Rattle.reading.proofs.Writing.{measured_few}
@@ -13,20 +14,14 @@ use Rattle.table.specs.Table.{records}
 use Rattle.search.specs.Calls.{told, asked, ReadDone}
 use Rattle.search.specs.Questions.{shape_questions, read_questions}
 
--- where two questions are answered yes
-both_yes : (x y : Bool) → ◌≡◌ {A = Option ℕ} None (cond x (cond y None (Some 33)) (Some 34)) → (x ≡ true) × (y ≡ true)
-both_yes true true e = (refl, refl)
-both_yes true false e = let w : ◌≡◌ {A = ℕ} 0 1 = cc in absurd (omega arith)
-both_yes false y e = let w : ◌≡◌ {A = ℕ} 0 1 = cc in absurd (omega arith)
-
 module _ (m : Meaning) (s : Search) (goal : ℕ) (t : List Node) (room : ℕ) (pair : ℕ × ℕ) (is : Some pair ≡ measured (read_route m s (records t) goal)) where
   route_there : is_some (read_route m s (records t) goal) ≡ true
   route_there = sym (measured_some (read_route m s (records t) goal)) ∙ ap is_some (sym is)
 
   pub read_asked : None ≡ first_no (shape_questions m s t) → s.size ≤ room → None ≡ first_no (read_questions m s goal t room)
   read_asked sizes fits =
-      let yes : (eqb m.size s.size ≡ true) × (eqb (length t) s.size ≡ true) = both_yes (eqb m.size s.size) (eqb (length t) s.size) sizes in
-      rw (yes.0, yes.1, route_there, le-leb s.size room fits)
+      let (same_size, (sized, _)) = all_yes (shape_questions m s t) (sym sizes) in
+      rw (same_size, sized, route_there, le-leb s.size room fits)
 
   pub few_places : s.size ≤ room → pair.0 ≤ room
   few_places fits = omega (arith, measured_few m s.start (records t) s.size goal pair.0 pair.1 (sym is))

@@ -56,11 +56,7 @@ call_run (by_read n s t list a list' did run) = calls.by_read n s t list a list'
 
 guaranteed : (m : Meaning) (start : ℕ) (bound : Bound) (total : ℕ) (es : List Event) → CallsGuaranteed m start bound total (map event es) → Guaranteed m start bound total es
 guaranteed m start bound total [] h = tt
-guaranteed m start bound total (advanced budget (told a) ∷ es) h =
-    let p = h.0 in (
-      record { answered = p.answered; marked = p.marked; mark_below = p.mark_below; affordable = p.affordable; exact = p.exact; few = p.few; uncapped = p.uncapped },
-      guaranteed m start bound a.search_after.total es h.1,
-    )
+guaranteed m start bound total (advanced budget (told a) ∷ es) h = (h.0, guaranteed m start bound a.search_after.total es h.1)
 guaranteed m start bound total (advanced budget (refused number) ∷ es) h = (h.0, guaranteed m start bound total es h.1)
 guaranteed m start bound total (rebound new (told s) ∷ es) h = guaranteed m start new total es h
 guaranteed m start bound total (rebound new (refused number) ∷ es) h = (h.0, guaranteed m start bound total es h.1)

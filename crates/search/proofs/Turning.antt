@@ -15,23 +15,22 @@ use Rattle.search_model.proofs.Loops.{Left, left_whole, left_barren, left_settle
 use Rattle.frontier.specs.declared.choose.Choice.{Choice}
 use Rattle.frontier.specs.declared.frontier.Frontier.{Frontier}
 use Rattle.table.specs.declared.node.Node.{Node}
-use Rattle.table.specs.declared.order.Queued.{Queued}
 use Rattle.frontier.specs.Choose.{Chosen, Picks}
 use Rattle.frontier.specs.Endings.{Ended}
 use Rattle.frontier.specs.Frontier.{Prepared}
 use Rattle.frontier.specs.Moves.{Rearranged}
-use Rattle.table.specs.Order.{in_order}
+use Rattle.table.specs.Order.{InOrder, in_order}
 use Rattle.frontier.specs.Starting.{Startable}
 use Rattle.table.specs.Table.{records}
 use Rattle.table.proofs.OrderLaws.{order_tested}
 use Rattle.expansion.specs.Expanding.{Expandable, Expanded}
 use Rattle.search.specs.declared.next.End.{End}
 use Rattle.search.specs.declared.next.End.TheVariants.{Barren, Settled, More}
-use Rattle.search.specs.declared.next.Next.{Next}
+use Rattle.std.specs.declared.ops.ControlFlow.{ControlFlow}
 use Rattle.search.specs.declared.turns.Stopped.{Stopped}
-use Rattle.search.specs.declared.next.Next.TheVariants.{Stop, Expand}
+use Rattle.std.specs.declared.ops.ControlFlow.TheVariants.{Break, Continue}
 use Rattle.search.specs.Next.{next_of, answer_of, mark_of, one_more, with_total}
-use Rattle.search.specs.Turns.{Runnable, TurnsTaken, TurnsOrdered}
+use Rattle.search.specs.Turns.{TurnsTaken, TurnsOrdered}
 
 -- After some turns from records rs: what is left comes to the whole, and the table is ready.
 pub record Turning (g : Guided) (s : Search) (budget : ℕ) (rs : List Record) (fr : Frontier) (spent total : ℕ) (t : List Node) : Type 0 where
@@ -40,8 +39,8 @@ pub record Turning (g : Guided) (s : Search) (budget : ℕ) (rs : List Record) (
   pub sized : length t ≡ g.floor.size
 
 -- The turns can begin.
-pub can_start : {m : Meaning} {s : Search} {q : Queued} {t : List Node} → Sound m → Runnable m s q t → Startable s q.opened q.nears t
-can_start sound h = record { ordered = h.ordered; small = omega (arith, h.sized, sound.limits.few_places) }
+pub can_start : {m : Meaning} {s : Search} {opened nears : ℕ} {t : List Node} → Sound m → InOrder s opened nears t → length t ≡ m.size → Startable s opened nears t
+can_start sound order sized = record { ordered = order; small = omega (arith, sized, sound.limits.few_places) }
 
 -- Before the first turn.
 pub turning_first :
@@ -73,9 +72,9 @@ module _
     now_left = subst (λ us. Left spent (going g (budget - spent) (with_total s total) us) (going g budget s rs)) (sym chosen.still.same_records) h.left
 
     -- what is known where the turns end, and where a place is to be expanded
-    Decided : Next → Type 0
-    Decided (Stop e) = TurnsTaken g s budget rs (record { ending = e; spent = spent; total = total; front = fr' }) t'
-    Decided (Expand p) =
+    Decided : ControlFlow End ℕ → Type 0
+    Decided (Break e) = TurnsTaken g s budget rs (record { ending = e; spent = spent; total = total; front = fr' }) t'
+    Decided (Continue p) =
         (spent < budget)
         × Open (records t') p
         × Left (spent + 1) (going g (budget - (spent + 1)) (with_total s (one_more total)) (expanded g p (records t'))) (going g budget s rs)
@@ -117,7 +116,7 @@ module _
         is_choice : choice s (f (at (records t') low.place)) (records t') ≡ Some c.place
         is_choice = ap (λ m. choice s m (records t')) low.is_f ∙ by_mark
 
-        by_room : g.floor.goal c.place ≡ false → (b : Bool) → ltb spent budget ≡ b → Decided (cond b (Expand c.place) (Stop (More c)))
+        by_room : g.floor.goal c.place ≡ false → (b : Bool) → ltb spent budget ≡ b → Decided (cond b (Continue c.place) (Break (More c)))
         by_room e true r = (
           ltb-true _ _ r,
           (choice_some s c.mark (records t') c.place by_mark).0,
@@ -126,7 +125,7 @@ module _
         by_room e false r =
             stops (More c) (left_more g budget spent (with_total s total) (records t') (going g budget s rs) now_left low.place c.place low.is_low is_choice e (ltb-false _ _ r)) marked
 
-        by_goal : (b : Bool) → g.floor.goal c.place ≡ b → Decided (cond b (Stop (Settled c)) (cond (ltb spent budget) (Expand c.place) (Stop (More c))))
+        by_goal : (b : Bool) → g.floor.goal c.place ≡ b → Decided (cond b (Break (Settled c)) (cond (ltb spent budget) (Continue c.place) (Break (More c))))
         by_goal true e = stops (Settled c) (left_settled g budget spent (with_total s total) (records t') (going g budget s rs) now_left low.place c.place low.is_low is_choice e) marked
         by_goal false e = by_room e (ltb spent budget) refl
 
@@ -134,14 +133,14 @@ module _
     pub turns_end :
         {first : List Record} (e : End)
         → rs ≡ first
-        → Stop e ≡ next_of g.floor picked spent budget
+        → Break e ≡ next_of g.floor picked spent budget
         → TurnsTaken g s budget first (record { ending = e; spent = spent; total = total; front = fr' }) t'
     unfolding Decided
     turns_end e same is = subst (λ us. TurnsTaken g s budget us (record { ending = e; spent = spent; total = total; front = fr' }) t') same (subst Decided (sym is) (decision picked refl))
 
     -- A place is expanded.
-    module _ (p : ℕ) (is : Expand p ≡ next_of g.floor picked spent budget) where
-      expands : Decided (Expand p)
+    module _ (p : ℕ) (is : Continue p ≡ next_of g.floor picked spent budget) where
+      expands : Decided (Continue p)
       expands = subst Decided (sym is) (decision picked refl)
 
       pub room : spent < budget

@@ -13,7 +13,7 @@ use Rattle.search_model.specs.Guarantee.{MarkLaw}
 use Rattle.table.specs.declared.node.Node.{Node}
 use Rattle.search.specs.Calls.{Told, told, refused, ReboundDone, ReadDone, Begun}
 use Rattle.search.specs.Reports.{AdvanceReport, AdvanceReported, EndDone, end_budget}
-use Rattle.search.specs.Runs.{State, running, settled, left_by, rebounded_to, AnswerPromise, RoutePromise}
+use Rattle.search.specs.Runs.{State, running, settled, left_by, rebounded_to, TurnsPromise, RoutePromise}
 
 -- After an advance; a refused one leaves the search running as it was.
 abbrev pub reported_to : Told AdvanceReport → Search → List Node → State
@@ -58,14 +58,8 @@ pub data CallRun (g : Guided) : State → List CallEvent → State → Type 0 wh
       → CallRun g (settled n s t) (read list a list' ∷ es) z
 
 -- An accepted advance, with the total before it.
-pub record ReportPromise (m : Meaning) (start total budget : ℕ) (a : AdvanceReport) : Type 0 where
-  pub answered : AnswerPromise m start budget a.spent a.answer
-  pub marked : MarkLaw a.answer a.mark
-  pub mark_below : (mark c : ℕ) → a.mark ≡ Some mark → ToGoal m start c → mark ≤ c
-  pub affordable : a.spent ≤ budget
-  pub exact : a.total ≡ total + a.spent
-  pub few : a.total ≤ most_expansions m
-  pub uncapped : a.total < greatest_total
+abbrev pub ReportPromise : Meaning → ℕ → ℕ → ℕ → AdvanceReport → Type 0
+ReportPromise m start total budget a = TurnsPromise m start total budget a.answer a.mark a.spent a.total
 
 -- The guarantee of every event, under the bound set last and with the total so far. An advance to the end is never refused and
 -- never answers more; the other calls are refused only by 35, 32 and 38.

@@ -4,6 +4,7 @@ use Rattle.floors.specs.Guided.{Guided}
 use Rattle.floors.specs.Meaning.{Meaning}
 use Rattle.floors.specs.Questions.{first_no, unless}
 use Rattle.search_model.specs.declared.bound.Bound.{Bound}
+use Rattle.search_model.specs.declared.records.Record.{Record}
 use Rattle.search_model.specs.declared.search.Search.{Search}
 use Rattle.search_model.specs.Advance.{Answer, Outcome, expansions, going}
 use Rattle.search_model.specs.Begin.{first_records, first_search, rebounded}
@@ -34,19 +35,25 @@ pub record Advance : Type 0 where
 abbrev pub advance_of : Outcome → Advance
 advance_of o = record { answer = o.answer; spent = expansions o; mark = o.mark; search_after = o.search_after }
 
--- A begin over a table t that leaves the table t'.
-pub record Begun (g : Guided) (start : ℕ) (bound : Bound) (t : List Node) (a : Told Search) (t' : List Node) : Type 0 where
-  pub said : a ≡ asked (first_no (begin_questions g.floor start bound t)) (first_search g start bound)
-  pub left : records t' ≡ unless (first_no (begin_questions g.floor start bound t)) (first_records g start) (records t)
-  pub same : is_some (first_no (begin_questions g.floor start bound t)) ≡ true → t' ≡ t
-  pub ordered : is_some (first_no (begin_questions g.floor start bound t)) ≡ false → in_order (first_search g start bound) t' ≡ true
+-- A call over a table t that leaves the table t', where `first` is the number of the first question that is answered no. Where none is,
+-- it tells the value and leaves these records, in order for this search; otherwise it tells the number and changes nothing.
+pub record CallDone {A : Type 0} (first : Option ℕ) (value : A) (after : List Record) (search_after : Search) (t : List Node) (a : Told A) (t' : List Node) : Type 0 where
+  pub said : a ≡ asked first value
+  pub left : records t' ≡ unless first after (records t)
+  pub same : is_some first ≡ true → t' ≡ t
+  pub ordered : is_some first ≡ false → in_order search_after t' ≡ true
+
+-- A begin.
+abbrev pub Begun : Guided → ℕ → Bound → List Node → Told Search → List Node → Type 0
+Begun g start bound t = CallDone (first_no (begin_questions g.floor start bound t)) (first_search g start bound) (first_records g start) (first_search g start bound) t
+
+-- Turns of a running search up to a budget, with what is told of their outcome.
+abbrev pub TurnsTold : {A : Type 0} → (Outcome → A) → Guided → Search → ℕ → Option ℕ → List Node → Told A → List Node → Type 0
+TurnsTold tell g s budget first t = CallDone first (tell (going g budget s (records t))) (going g budget s (records t)).records (going g budget s (records t)).search_after t
 
 -- An advance of a running search.
-pub record AdvanceDone (g : Guided) (s : Search) (budget : ℕ) (t : List Node) (a : Told Advance) (t' : List Node) : Type 0 where
-  pub said : a ≡ asked (first_no (advance_questions g.floor s budget t)) (advance_of (going g budget s (records t)))
-  pub left : records t' ≡ unless (first_no (advance_questions g.floor s budget t)) (going g budget s (records t)).records (records t)
-  pub same : is_some (first_no (advance_questions g.floor s budget t)) ≡ true → t' ≡ t
-  pub ordered : is_some (first_no (advance_questions g.floor s budget t)) ≡ false → in_order (going g budget s (records t)).search_after t' ≡ true
+abbrev pub AdvanceDone : Guided → Search → ℕ → List Node → Told Advance → List Node → Type 0
+AdvanceDone g s budget t = TurnsTold advance_of g s budget (first_no (advance_questions g.floor s budget t)) t
 
 -- A rebound of a running or settled search.
 pub record ReboundDone (s : Search) (bound : Bound) (t : List Node) (a : Told Search) (t' : List Node) : Type 0 where

@@ -8,13 +8,13 @@ use Rattle.search_model.specs.Expansion.{greatest_total}
 use Rattle.frontier.specs.declared.choose.Choice.{Choice}
 use Rattle.search.specs.declared.next.End.{End}
 use Rattle.search.specs.declared.next.End.TheVariants.{Barren, Settled, More}
-use Rattle.search.specs.declared.next.Next.{Next}
-use Rattle.search.specs.declared.next.Next.TheVariants.{Stop, Expand}
+use Rattle.std.specs.declared.ops.ControlFlow.{ControlFlow}
+use Rattle.std.specs.declared.ops.ControlFlow.TheVariants.{Break, Continue}
 
--- It stops where nothing is open, at a goal, and where the budget is used up; otherwise it expands the place.
-abbrev pub next_of : Meaning → Option Choice → ℕ → ℕ → Next
-next_of m None spent budget = Stop Barren
-next_of m (Some c) spent budget = cond (m.goal c.place) (Stop (Settled c)) (cond (nat_lt spent budget) (Expand c.place) (Stop (More c)))
+-- It stops where nothing is open, at a goal, and where the budget is used up; otherwise it goes on and expands the place.
+abbrev pub next_of : Meaning → Option Choice → ℕ → ℕ → ControlFlow End ℕ
+next_of m None spent budget = Break Barren
+next_of m (Some c) spent budget = cond (m.goal c.place) (Break (Settled c)) (cond (nat_lt spent budget) (Continue c.place) (Break (More c)))
 
 -- The answer of an end, and the low mark.
 abbrev pub answer_of : End → Answer

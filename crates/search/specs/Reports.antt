@@ -8,7 +8,7 @@ use Rattle.search_model.specs.Advance.{Answer, Outcome, expansions, going}
 use Rattle.table.specs.declared.node.Node.{Node}
 use Rattle.table.specs.Order.{in_order}
 use Rattle.table.specs.Table.{records}
-use Rattle.search.specs.Calls.{Told, asked}
+use Rattle.search.specs.Calls.{Told, TurnsTold}
 use Rattle.search.specs.Questions.{advance_questions, end_questions}
 
 -- What an advance tells: the answer; the expansions of this call, the total and the low mark; and the search afterwards.
@@ -24,12 +24,9 @@ abbrev pub advance_report_of : Outcome → AdvanceReport
 advance_report_of o =
     record { answer = o.answer; spent = expansions o; total = o.search_after.total; mark = o.mark; search_after = o.search_after }
 
--- Turns of a running search up to a budget, where `no` is the number of the first question that is answered no.
-pub record TurnsDone (g : Guided) (s : Search) (budget : ℕ) (no : Option ℕ) (t : List Node) (a : Told AdvanceReport) (t' : List Node) : Type 0 where
-  pub said : a ≡ asked no (advance_report_of (going g budget s (records t)))
-  pub left : records t' ≡ unless no (going g budget s (records t)).records (records t)
-  pub same : is_some no ≡ true → t' ≡ t
-  pub ordered : is_some no ≡ false → in_order (going g budget s (records t)).search_after t' ≡ true
+-- Turns of a running search up to a budget, where the number given is that of the first question that is answered no.
+abbrev pub TurnsDone : Guided → Search → ℕ → Option ℕ → List Node → Told AdvanceReport → List Node → Type 0
+TurnsDone = TurnsTold advance_report_of
 
 -- An advance of a running search.
 abbrev pub AdvanceReported : Guided → Search → ℕ → List Node → Told AdvanceReport → List Node → Type 0

@@ -1,5 +1,5 @@
 -- Runs of a search over its table, and the guarantee over them.
-use Rattle.std.specs.Prelude.{◌≡◌, ℕ, ◌+◌, ◌<◌, ◌≤◌, true, List, [], ◌∷◌, ◌++◌, length, drop, Some}
+use Rattle.std.specs.Prelude.{◌≡◌, ℕ, ◌+◌, ◌<◌, ◌≤◌, true, List, [], ◌∷◌, ◌++◌, length, drop, Some, Option}
 use Rattle.floors.specs.Guided.{Guided, SoundGuided}
 use Rattle.floors.specs.Meaning.{Meaning}
 use Rattle.floors.specs.Route.{Route, ToGoal, last}
@@ -71,15 +71,19 @@ AnswerPromise m start budget spent Barren = NoRoute m start
 AnswerPromise m start budget spent (Settled n) = (m.goal n ≡ true) × ((c : ℕ) × ToGoal m start c)
 AnswerPromise m start budget spent More = spent ≡ budget
 
+-- Turns up to a budget by what they told, with the total before them and after.
+pub record TurnsPromise (m : Meaning) (start total budget : ℕ) (answer : Answer) (mark : Option ℕ) (spent total_after : ℕ) : Type 0 where
+  pub answered : AnswerPromise m start budget spent answer
+  pub marked : MarkLaw answer mark
+  pub mark_below : (low c : ℕ) → mark ≡ Some low → ToGoal m start c → low ≤ c
+  pub affordable : spent ≤ budget
+  pub exact : total_after ≡ total + spent
+  pub few : total_after ≤ most_expansions m
+  pub uncapped : total_after < greatest_total
+
 -- An accepted advance, with the total before it.
-pub record AdvancePromise (m : Meaning) (start total budget : ℕ) (a : Advance) : Type 0 where
-  pub answered : AnswerPromise m start budget a.spent a.answer
-  pub marked : MarkLaw a.answer a.mark
-  pub mark_below : (mark c : ℕ) → a.mark ≡ Some mark → ToGoal m start c → mark ≤ c
-  pub affordable : a.spent ≤ budget
-  pub exact : a.search_after.total ≡ total + a.spent
-  pub few : a.search_after.total ≤ most_expansions m
-  pub uncapped : a.search_after.total < greatest_total
+abbrev pub AdvancePromise : Meaning → ℕ → ℕ → ℕ → Advance → Type 0
+AdvancePromise m start total budget a = TurnsPromise m start total budget a.answer a.mark a.spent a.search_after.total
 
 -- A route read under a bound: the list begins with the places of a route from the start to a goal at the cost told, and
 -- b × that cost is at most a × the cost of every route from the start to a goal. The rest of the list is as it was.

@@ -1,25 +1,17 @@
 -- The turns of an advance over a table.
-use Rattle.std.specs.Prelude.{◌≡◌, ℕ, ◌≤◌, true, List, length}
+use Rattle.std.specs.Prelude.{◌≡◌, ℕ, true, List}
 use Rattle.floors.specs.Guided.{Guided}
-use Rattle.floors.specs.Meaning.{Meaning}
 use Rattle.search_model.specs.declared.records.Record.{Record}
 use Rattle.search_model.specs.declared.search.Search.{Search}
 use Rattle.search_model.specs.Advance.{expansions, going}
 use Rattle.table.specs.declared.node.Node.{Node}
-use Rattle.table.specs.declared.order.Queued.{Queued}
 use Rattle.frontier.specs.Frontier.{Prepared}
-use Rattle.table.specs.Order.{InOrder, in_order}
+use Rattle.table.specs.Order.{in_order}
 use Rattle.table.specs.Table.{records}
 use Rattle.search.specs.declared.states.Report.{Report}
 use Rattle.search.specs.declared.turns.Stopped.{Stopped}
 use Rattle.search.specs.Reports.{AdvanceReport, advance_report_of}
 use Rattle.search.specs.Next.{answer_of, mark_of, with_total}
-
--- A search can take turns: its table is in order and has a node for each place, and its bound is valid.
-pub record Runnable (m : Meaning) (s : Search) (q : Queued) (t : List Node) : Type 0 where
-  pub ordered : InOrder s q.opened q.nears t
-  pub sized : length t ≡ m.size
-  pub bounded : s.bound.b ≤ s.bound.a
 
 -- Turns up to a budget, from these records on, end as the definition's do: answer, low mark, expansions, search and records.
 pub record TurnsTaken (g : Guided) (s : Search) (budget : ℕ) (rs : List Record) (r : Stopped) (t' : List Node) : Type 0 where

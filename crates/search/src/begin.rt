@@ -1,5 +1,5 @@
 // The begin of a search.
-ghost use Rattle.floors.specs.Guided.{guided};
+ghost use Rattle.floors.specs.Guided.{described};
 ghost use Rattle.search.specs.Calls.{Begun};
 ghost use Rattle.search.specs.CallRuns.{CallsKept};
 ghost use Rattle.search.specs.Told.{state_of, tells};
@@ -22,7 +22,7 @@ fn begin_table<F: GuidedFloor>(
     bound: Bound,
     table: &mut [Node],
 ) -> Result<Running, SearchFault>
-    ensures { Begun (guided (F.Floor.meaning floor.now) (F.GuidedFloor.guesses floor.now)) start bound table.old (tells state_of result) table.new }
+    ensures { Begun (described F.GuidedFloor floor.now) start bound table.old (tells state_of result) table.new }
 {
     ask_begin(floor, start, bound, table)?;
     set_up(table, start, labelled(floor, start, 0, start, 0));
@@ -43,8 +43,8 @@ impl Running {
         bound: Bound,
         table: &mut [Node],
     ) -> Result<Running, SearchFault>
-        ensures done { Begun (guided (F.Floor.meaning floor.now) (F.GuidedFloor.guesses floor.now)) start bound table.old (tells state_of result) table.new }
-        ensures guaranteed { CallsKept (guided (F.Floor.meaning floor.now) (F.GuidedFloor.guesses floor.now)) start bound (tells state_of result) table.new }
+        ensures done { Begun (described F.GuidedFloor floor.now) start bound table.old (tells state_of result) table.new }
+        ensures guaranteed { CallsKept (described F.GuidedFloor floor.now) start bound (tells state_of result) table.new }
     {
         begin_table(floor, start, bound, table)
     }

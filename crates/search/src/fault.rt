@@ -4,14 +4,14 @@ ghost use Rattle.search.specs.Faults.{search_number};
 
 #[derive(Clone, Copy, PartialEq, Eq, Debug)]
 pub enum SearchFault {
-    StartOffFloor,
-    BadBound,
-    TableSize,
-    FloorSize,
-    BudgetTooLarge,
-    TableOutOfOrder,
-    ParentsAstray,
-    ListTooShort,
+    StartOffFloor = 31,
+    BadBound = 32,
+    TableSize = 33,
+    FloorSize = 34,
+    BudgetTooLarge = 35,
+    TableOutOfOrder = 36,
+    ParentsAstray = 37,
+    ListTooShort = 38,
 }
 
 impl SearchFault {
@@ -19,15 +19,6 @@ impl SearchFault {
     pub fn number(&self) -> u32
         ensures { result ≡ search_number self.now }
     {
-        match *self {
-            SearchFault::StartOffFloor => 31,
-            SearchFault::BadBound => 32,
-            SearchFault::TableSize => 33,
-            SearchFault::FloorSize => 34,
-            SearchFault::BudgetTooLarge => 35,
-            SearchFault::TableOutOfOrder => 36,
-            SearchFault::ParentsAstray => 37,
-            SearchFault::ListTooShort => 38,
-        }
+        *self as u32
     }
 }

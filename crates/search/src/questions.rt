@@ -6,11 +6,15 @@ ghost use Rattle.search.specs.Questions.{bound_valid, begin_questions, advance_q
 ghost use Rattle.table.specs.Order.{InOrder};
 
 use crate::fault::SearchFault;
+use crate::running::Running;
 use floors::floor::Floor;
 use search_model::bound::Bound;
 use search_model::search::Search;
 use table::node::Node;
 use table::order::{Queued, check_order};
+
+// The greatest budget.
+pub const GREATEST_BUDGET: u32 = 65_535;
 
 // Whether the bound is valid: 1 ≤ b ≤ a ≤ 10,000.
 fn is_valid(bound: Bound) -> bool
@@ -26,7 +30,7 @@ pub fn ask_begin<F: Floor>(
     bound: Bound,
     table: &[Node],
 ) -> Result<(), SearchFault>
-    ensures answer { refusal search_number result ≡ first_no (begin_questions (F.Floor.meaning floor.now) start bound table.now) }
+    ensures answer { refusal search_number result ≡ first_no (begin_questions (F.meaning floor.now) start bound table.now) }
     ensures place { OnOk result (start < length table.now) }
     ensures bounded { OnOk result (bound.b ≤ bound.a) }
 {
@@ -48,7 +52,7 @@ pub(crate) fn ask_sizes<F: Floor>(
     state: Search,
     table: &[Node],
 ) -> Result<(), SearchFault>
-    ensures { refusal search_number result ≡ first_no (shape_questions (F.Floor.meaning floor.now) state table.now) }
+    ensures { refusal search_number result ≡ first_no (shape_questions (F.meaning floor.now) state table.now) }
 {
     if floor.places() != state.size {
         return Err(SearchFault::FloorSize);
@@ -65,41 +69,7 @@ fn ask_order(state: Search, table: &[Node]) -> Result<Queued, SearchFault>
     ensures answer { refusal search_number result ≡ first_no (order_question state table.now) }
     ensures ordered { IfOk result (λ q. InOrder state q.opened q.nears table.now) }
 {
-    match check_order(state, table) {
-        Some(queued) => Ok(queued),
-        None => Err(SearchFault::TableOutOfOrder),
-    }
-}
-
-// The questions of an advance.
-pub(crate) fn ask_advance<F: Floor>(
-    floor: &F,
-    state: Search,
-    budget: u32,
-    table: &[Node],
-) -> Result<Queued, SearchFault>
-    ensures answer { refusal search_number result ≡ first_no (advance_questions (F.Floor.meaning floor.now) state budget table.now) }
-    ensures ordered { IfOk result (λ q. InOrder state q.opened q.nears table.now) }
-{
-    ask_sizes(floor, state, table)?;
-    if budget > 65_535 {
-        return Err(SearchFault::BudgetTooLarge);
-    }
-    ask_order(state, table)
-}
-
-// The questions of an advance to the end.
-pub(crate) fn ask_end<F: Floor>(
-    floor: &F,
-    state: Search,
-    table: &[Node],
-) -> Result<Queued, SearchFault>
-    ensures answer { refusal search_number result ≡ first_no (end_questions (F.Floor.meaning floor.now) state table.now) }
-    ensures ordered { IfOk result (λ q. InOrder state q.opened q.nears table.now) }
-    ensures sized { OnOk result (length table.now ≡ (F.Floor.meaning floor.now).size) }
-{
-    ask_sizes(floor, state, table)?;
-    ask_order(state, table)
+    check_order(state, table).ok_or(SearchFault::TableOutOfOrder)
 }
 
 // The questions of a rebound.
@@ -119,4 +89,34 @@ pub(crate) fn ask_rebound(
         return Err(SearchFault::TableSize);
     }
     ask_order(state, table)
+}
+
+impl Running {
+    // The questions of an advance.
+    pub(crate) fn ask_advance<F: Floor>(
+        &self,
+        floor: &F,
+        budget: u32,
+        table: &[Node],
+    ) -> Result<Queued, SearchFault>
+        ensures answer { refusal search_number result ≡ first_no (advance_questions (F.meaning floor.now) self.now.state budget table.now) }
+        ensures ordered { IfOk result (λ q. InOrder self.now.state q.opened q.nears table.now) }
+        ensures sized { OnOk result (length table.now ≡ (F.meaning floor.now).size) }
+    {
+        ask_sizes(floor, self.state, table)?;
+        if budget > GREATEST_BUDGET {
+            return Err(SearchFault::BudgetTooLarge);
+        }
+        ask_order(self.state, table)
+    }
+
+    // The questions of an advance to the end.
+    pub(crate) fn ask_end<F: Floor>(&self, floor: &F, table: &[Node]) -> Result<Queued, SearchFault>
+        ensures answer { refusal search_number result ≡ first_no (end_questions (F.meaning floor.now) self.now.state table.now) }
+        ensures ordered { IfOk result (λ q. InOrder self.now.state q.opened q.nears table.now) }
+        ensures sized { OnOk result (length table.now ≡ (F.meaning floor.now).size) }
+    {
+        ask_sizes(floor, self.state, table)?;
+        ask_order(self.state, table)
+    }
 }

@@ -15,47 +15,31 @@ use crate::states::Settled;
 use floors::floor::Floor;
 use reading::measure::measure;
 use reading::places::write_places;
-use search_model::search::Search;
 use table::node::Node;
 
-// The questions of a read: how many places the route has, and its cost.
-fn ask_read<F: Floor>(
-    floor: &F,
-    state: Search,
-    goal: u32,
-    table: &[Node],
-    room: usize,
-) -> Result<(usize, u32), SearchFault>
-    ensures answer { refusal search_number result ≡ first_no (read_questions (F.Floor.meaning floor.now) state goal table.now room) }
-    ensures pair { IfOk result (λ p. measured (read_route (F.Floor.meaning floor.now) state (records table.now) goal) ≡ Some p) }
-    ensures fits { IfOk result (λ p. p.0 ≤ room) }
-{
-    ask_sizes(floor, state, table)?;
-    let Some(pair) = measure(floor, state.start, table, state.size, goal) else {
-        return Err(SearchFault::ParentsAstray);
-    };
-    if room < state.size as usize {
-        return Err(SearchFault::ListTooShort);
-    }
-    Ok(pair)
-}
-
-// The questions, then the places of the route, written into the list.
-fn read_table<F: Floor>(
-    floor: &F,
-    state: Search,
-    goal: u32,
-    table: &[Node],
-    list: &mut [u32],
-) -> Result<(usize, u32), SearchFault>
-    ensures { ReadDone (F.Floor.meaning floor.now) state goal table.now list.old (tells (λ p. p) result) list.new }
-{
-    let (places, cost) = ask_read(floor, state, goal, table, list.len())?;
-    write_places(table, goal, places, list);
-    Ok((places, cost))
-}
-
 impl Settled {
+    // The questions of a read: how many places the route has, and its cost.
+    fn ask_read<F: Floor>(
+        &self,
+        floor: &F,
+        table: &[Node],
+        room: usize,
+    ) -> Result<(usize, u32), SearchFault>
+        ensures answer { refusal search_number result ≡ first_no (read_questions (F.meaning floor.now) self.now.state self.now.goal table.now room) }
+        ensures pair { IfOk result (λ p. measured (read_route (F.meaning floor.now) self.now.state (records table.now) self.now.goal) ≡ Some p) }
+        ensures fits { IfOk result (λ p. p.0 ≤ room) }
+    {
+        let state = self.state;
+        ask_sizes(floor, state, table)?;
+        let pair = measure(floor, state.start, table, state.size, self.goal).ok_or(
+            SearchFault::ParentsAstray,
+        )?;
+        if room < state.size as usize {
+            return Err(SearchFault::ListTooShort);
+        }
+        Ok(pair)
+    }
+
     // Writes the places of the route into the list, the start first, and answers how many there are and the sum of the leg costs.
     pub fn read<F: Floor>(
         &self,
@@ -63,8 +47,10 @@ impl Settled {
         table: &[Node],
         list: &mut [u32],
     ) -> Result<(usize, u32), SearchFault>
-        ensures { ReadDone (F.Floor.meaning floor.now) self.now.state self.now.goal table.now list.old (tells (λ p. p) result) list.new }
+        ensures { ReadDone (F.meaning floor.now) self.now.state self.now.goal table.now list.old (tells (λ p. p) result) list.new }
     {
-        read_table(floor, self.state, self.goal, table, list)
+        let (places, cost) = self.ask_read(floor, table, list.len())?;
+        write_places(table, self.goal, places, list);
+        Ok((places, cost))
     }
 }

@@ -16,12 +16,7 @@ fn rebound_table(state: Search, bound: Bound, table: &mut [Node]) -> Result<Runn
     ensures { ReboundDone state bound table.old (tells state_of result) table.new }
 {
     let queued = ask_rebound(state, bound, table)?;
-    let next = Search {
-        start: state.start,
-        bound,
-        size: state.size,
-        total: state.total,
-    };
+    let next = Search { bound, ..state };
     rebound_near(next, queued.opened, table);
     Ok(Running { state: next })
 }
@@ -32,10 +27,7 @@ impl Running {
         ensures done { ReboundDone self.state bound table.old (tells_or_back state_of result) table.new }
         ensures back { HandsBack self result }
     {
-        match rebound_table(self.state, bound, table) {
-            Ok(next) => Ok(next),
-            Err(fault) => Err(Refused { fault, back: self }),
-        }
+        rebound_table(self.state, bound, table).map_err(|fault| Refused { fault, back: self })
     }
 }
 
@@ -46,9 +38,6 @@ impl Settled {
         ensures back { HandsBack self result }
     {
         let answer = rebound_table(self.state, bound, table);
-        match answer {
-            Ok(next) => Ok(next),
-            Err(fault) => Err(Refused { fault, back: self }),
-        }
+        answer.map_err(|fault| Refused { fault, back: self })
     }
 }

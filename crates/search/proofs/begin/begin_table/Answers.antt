@@ -1,5 +1,5 @@
 use Rattle.std.proofs.Common.{sym, ap, subst, arith}
-use Rattle.floors.specs.Guided.{guided_sound}
+use Rattle.floors.specs.Guided.{guided, guided_sound}
 use Rattle.search_model.specs.declared.records.Record.{Record}
 use Rattle.search_model.specs.Fields.{RecordLimits}
 use Rattle.search_model.proofs.Limits.{labelled_limits}
@@ -17,5 +17,5 @@ set_up-requires g c = record {
 
 pub returns : goal.returns
 returns g c =
-    begin_done _ c.args.start c.args.bound c.places.result c.labelled.result c.args.table.now c.set_up.new.table
+    begin_done (guided (g.F.Floor.meaning c.args.floor.now) (g.F.GuidedFloor.guesses c.args.floor.now)) c.args.start c.args.bound c.places.result c.labelled.result c.args.table.now c.set_up.new.table
     c.in_ok-ask_begin.ensures.answer c.in_ok-ask_begin.ensures.bounded c.places.ensures c.labelled.ensures c.set_up.ensures.kept c.set_up.ensures.order

@@ -2,7 +2,7 @@ use Rattle.std.proofs.Common.{◌-◌}
 use Rattle.floors.specs.Guided.{guided}
 use Rattle.table.specs.Table.{records}
 use Rattle.search.proofs.Turning.{Turning}
-use Rattle.search.proofs.turns.take_turns.Given as goal
+use Rattle.search.proofs.running.Running.take_turns.Given as goal
 
 abbrev pub invariant-loop-place : goal.invariant-loop-place
 invariant-loop-place g l =

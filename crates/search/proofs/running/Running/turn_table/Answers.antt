@@ -1,5 +1,5 @@
 use Rattle.search.proofs.Turning.{turns_ordered}
-use Rattle.search.proofs.turns.turn_table.Goals as goal
+use Rattle.search.proofs.running.Running.turn_table.Goals as goal
 
 pub returns : goal.returns
 returns g c = turns_ordered c.take_turns-stopped.ensures c.finish.ensures
