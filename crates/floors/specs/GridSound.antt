@@ -26,10 +26,6 @@ OnGrid s at = (at.row < s.height) × (at.column < s.width)
 abbrev pub Formed : List ℕ → GridShape → Type 0
 Formed cells s = Sides s × ((length cells ≡ area s) × (s.goal < area s) × ((i : ℕ) → slice_index cells i ≤ 255))
 
--- The bytes that the estimates take from the cells.
-abbrev pub Ranged : List ℕ → ℕ → ℕ → Type 0
-Ranged cells least most = (least ≡ least_nonzero cells) × (most ≡ greatest cells) × (least ≤ 255) × (most ≤ 255)
-
 -- A place and its row and column determine each other.
 pub position_on : (s : GridShape) (p : ℕ) → Sides s → p < area s → OnGrid s (position s p)
 position_on s p sides on =
@@ -71,7 +67,7 @@ one_step s goal at next on short = (on, joined _ _ _ _ _ _ (apart_triangle at.ro
 
 chosen : {A : Type 0} (t : Bool) (x y : A) → cond t (Some x) None ≡ Some y → (t ≡ true) × (x ≡ y)
 chosen true x y e = (refl, cc)
-chosen false x y e = let z : ◌≡◌ {A = ℕ} 0 1 = cc in absurd (omega arith)
+chosen false x y e = cc
 
 neighbour_near : (s : GridShape) (goal at next : Position) (d : Direction) → OnGrid s at → neighbour s at d ≡ Some next → Near s goal at next
 neighbour_near s goal at next North on e =
@@ -102,7 +98,7 @@ entered cells s p k l sides = listed (nat_lt k (leg_count s p)) refl
     into : (at : Position) → p < area s → Near s (position s s.goal) (position s p) at
         → (t : Bool) → (slice_index cells (place_at s at) == 0) ≡ t
         → cond t None (Some (record { target = place_at s at; cost = slice_index cells (place_at s at) })) ≡ Some l → Entered cells s p l
-    into at here near true test e = let z : ◌≡◌ {A = ℕ} 0 1 = cc in absurd (omega arith)
+    into at here near true test e = cc
     into at here near false test e =
         let same : record { target = place_at s at; cost = slice_index cells (place_at s at) } ≡ l = cc in
         let target : place_at s at ≡ l.target = ap (λ (x : Leg). x.target) same in
@@ -117,7 +113,7 @@ entered cells s p k l sides = listed (nat_lt k (leg_count s p)) refl
         }
 
     toward : p < area s → (o : Option Position) → neighbour s (position s p) (direction k) ≡ o → leg_into cells s o ≡ Some l → Entered cells s p l
-    toward here None is e = let z : ◌≡◌ {A = ℕ} 0 1 = cc in absurd (omega arith)
+    toward here None is e = cc
     toward here (Some at) is e =
         into at here (neighbour_near s (position s s.goal) (position s p) at (direction k) (position_on s p sides here) is)
         (slice_index cells (place_at s at) == 0) refl e
@@ -129,7 +125,7 @@ entered cells s p k l sides = listed (nat_lt k (leg_count s p)) refl
     listed : (t : Bool) → nat_lt k (leg_count s p) ≡ t
         → cond t (leg_into cells s (neighbour s (position s p) (direction k))) None ≡ Some l → Entered cells s p l
     listed true test e = toward (on (nat_lt p (area s)) refl (ltb-true _ _ test)) (neighbour s (position s p) (direction k)) refl e
-    listed false test e = let z : ◌≡◌ {A = ℕ} 0 1 = cc in absurd (omega arith)
+    listed false test e = cc
 
 -- Off the grid a value held by its area is its default.
 off : {A : Type 0} (p size : ℕ) (x y : A) → size ≤ p → cond (nat_lt p size) x y ≡ y

@@ -1,6 +1,6 @@
 -- Over a sound floor the shut floor is sound.
-use Rattle.std.specs.Prelude.{◌≡◌, ℕ, Bool, true, false, cond, List, Some, None, Option, refl}
-use Rattle.std.proofs.Common.{ap, le_refl, arith}
+use Rattle.std.specs.Prelude.{◌≡◌, Bool, true, false, cond, List, Some, None, Option, refl}
+use Rattle.std.proofs.Common.{ap, le_refl}
 use Rattle.floors.specs.declared.leg.Leg.{Leg}
 use Rattle.floors.specs.Meaning.{Meaning}
 use Rattle.floors.specs.Shut.{contains, unless_shut, shut_floor}
@@ -13,7 +13,7 @@ usable_below flags None l e = e
 usable_below flags (Some x) l e = open_leg (contains flags x.target) e
   where
     open_leg : (b : Bool) → cond b None (Some x) ≡ Some l → Some x ≡ Some l
-    open_leg true f = let z : ◌≡◌ {A = ℕ} 0 1 = cc in absurd (omega arith)
+    open_leg true f = cc
     open_leg false f = f
 
 module _ (flags : List Bool) (m : Meaning) where
