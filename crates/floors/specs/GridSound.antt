@@ -3,6 +3,7 @@ use Rattle.std.specs.Prelude.{◌≡◌, ℕ, ◌+◌, ◌*◌, ◌/◌, ◌<◌
 use Rattle.std.proofs.Common.{sym, ap, ap₂, subst, ◌∙◌, mul_comm, mul-add, mul-one, mul-zero, mul-le-mul_left, arith}
 use Rattle.std.proofs.lemmas.Nat.{div_below, mod_below, mul-add-lt, div-mul-add, mod-mul-add, mul-le}
 use Rattle.std.proofs.lemmas.Bool.{cond-true, cond-false, cond_both, ltb-true, le-ltb, lt-ltb, eqb-true, eqb-false, ne_eqb}
+use Rattle.std.proofs.lemmas.Option.{cond_some}
 use Rattle.floors.specs.declared.leg.Leg.{Leg}
 use Rattle.floors.specs.declared.grid_shape.Direction.{Direction}
 use Rattle.floors.specs.declared.grid_shape.Direction.TheVariants.{North, East, South, West}
@@ -65,22 +66,18 @@ one_step s goal at next on short = (on, joined _ _ _ _ _ _ (apart_triangle at.ro
     joined : (x y a b u v : ℕ) → x ≤ a + u → y ≤ b + v → a + b ≤ 1 → x + y ≤ 1 + (u + v)
     joined x y a b u v h k short = omega arith
 
-chosen : {A : Type 0} (t : Bool) (x y : A) → cond t (Some x) None ≡ Some y → (t ≡ true) × (x ≡ y)
-chosen true x y e = (refl, cc)
-chosen false x y e = cc
-
 neighbour_near : (s : GridShape) (goal at next : Position) (d : Direction) → OnGrid s at → neighbour s at d ≡ Some next → Near s goal at next
 neighbour_near s goal at next North on e =
-    let (test, same) = chosen (nat_lt 0 at.row) _ next e in
+    let (test, same) = cond_some (nat_lt 0 at.row) _ next e in
     subst (Near s goal at) same (one_step s goal at _ (omega (arith, on.0), on.1) (omega arith))
 neighbour_near s goal at next East on e =
-    let (test, same) = chosen (nat_lt (at.column + 1) s.width) _ next e in
+    let (test, same) = cond_some (nat_lt (at.column + 1) s.width) _ next e in
     subst (Near s goal at) same (one_step s goal at _ (on.0, ltb-true _ _ test) (omega arith))
 neighbour_near s goal at next South on e =
-    let (test, same) = chosen (nat_lt (at.row + 1) s.height) _ next e in
+    let (test, same) = cond_some (nat_lt (at.row + 1) s.height) _ next e in
     subst (Near s goal at) same (one_step s goal at _ (ltb-true _ _ test, on.1) (omega arith))
 neighbour_near s goal at next West on e =
-    let (test, same) = chosen (nat_lt 0 at.column) _ next e in
+    let (test, same) = cond_some (nat_lt 0 at.column) _ next e in
     subst (Near s goal at) same (one_step s goal at _ (on.0, omega (arith, on.1)) (omega arith))
 
 -- What a usable leg from place p enters: a cell one step on, whose byte is not 0 and is the cost.
