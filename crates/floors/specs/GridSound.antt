@@ -16,21 +16,27 @@ use Rattle.floors.specs.Guided.{Limited}
 use Rattle.floors.specs.Sound.{Limits, Outside, Sound, limit}
 
 -- Width and height are 1 to 64.
-abbrev pub Sides : GridShape → Type 0
-Sides s = (1 ≤ s.width) × (s.width ≤ 64) × (1 ≤ s.height) × (s.height ≤ 64)
+pub record Sides (s : GridShape) : Type 0 where
+  pub some_width : 1 ≤ s.width
+  pub width : s.width ≤ 64
+  pub some_height : 1 ≤ s.height
+  pub height : s.height ≤ 64
 
 -- A row and a column of the grid.
 abbrev pub OnGrid : GridShape → Position → Type 0
 OnGrid s at = (at.row < s.height) × (at.column < s.width)
 
 -- The sides are in range, each cell has its byte, and the goal is a place.
-abbrev pub Formed : List ℕ → GridShape → Type 0
-Formed cells s = Sides s × ((length cells ≡ area s) × (s.goal < area s) × ((i : ℕ) → slice_index cells i ≤ 255))
+pub record Formed (cells : List ℕ) (s : GridShape) : Type 0 where
+  pub sides : Sides s
+  pub each_cell : length cells ≡ area s
+  pub goal : s.goal < area s
+  pub bytes : (i : ℕ) → slice_index cells i ≤ 255
 
 -- A place and its row and column determine each other.
 pub position_on : (s : GridShape) (p : ℕ) → Sides s → p < area s → OnGrid s (position s p)
 position_on s p sides on =
-    (div_below p s.width s.height sides.0 (omega (arith, mul_comm s.width s.height)), mod_below p s.width sides.0)
+    (div_below p s.width s.height sides.some_width (omega (arith, mul_comm s.width s.height)), mod_below p s.width sides.some_width)
 
 pub place_on : (s : GridShape) (at : Position) → OnGrid s at → place_at s at < area s
 place_on s at on = mul-add-lt at.row s.width at.column s.height on.0 on.1
@@ -49,8 +55,8 @@ to_goal_small s p sides goal on =
     let b = position_on s s.goal sides goal in
     omega (
       arith,
-      apart_small (position s p).row (position s s.goal).row 63 (omega (arith, a.0, sides.3)) (omega (arith, b.0, sides.3)),
-      apart_small (position s p).column (position s s.goal).column 63 (omega (arith, a.1, sides.1)) (omega (arith, b.1, sides.1)),
+      apart_small (position s p).row (position s s.goal).row 63 (omega (arith, a.0, sides.height)) (omega (arith, b.0, sides.height)),
+      apart_small (position s p).column (position s s.goal).column 63 (omega (arith, a.1, sides.width)) (omega (arith, b.1, sides.width)),
     )
 
 -- A step stays on the grid and brings no goal nearer by more than 1.
@@ -132,24 +138,24 @@ module _ (cells : List ℕ) (s : GridShape) (formed : Formed cells s) where
   -- an estimate that counts at most so much for each leg is within the limit
   estimate_small : (each p : ℕ) → each ≤ 255 → cond (nat_lt p (area s)) (each * to_goal s p) 0 ≤ limit
   estimate_small each p small = cond_both (nat_lt p (area s)) (each * to_goal s p) 0 (λ x. x ≤ limit)
-      (λ e. omega (arith, mul-le each (to_goal s p) 255 126 small (to_goal_small s p formed.0 formed.1.1 (ltb-true _ _ e))))
+      (λ e. omega (arith, mul-le each (to_goal s p) 255 126 small (to_goal_small s p formed.sides formed.goal (ltb-true _ _ e))))
       (λ e. omega arith)
 
   grid_limits : Limits (grid_floor cells s)
   grid_limits = record {
-    some_place = mul-le 1 1 s.width s.height formed.0.0 formed.0.2;
-    few_places = mul-le s.width s.height 64 64 formed.0.1 formed.0.3;
+    some_place = mul-le 1 1 s.width s.height formed.sides.some_width formed.sides.some_height;
+    few_places = mul-le s.width s.height 64 64 formed.sides.width formed.sides.height;
     few_legs = λ p. cond_both (nat_lt p (area s)) 4 0 (λ n. n ≤ 65535) (λ _. omega arith) (λ _. omega arith);
-    targets = λ p k l e. let x = entered cells s p k l formed.0 e in subst (λ q. q < area s) x.target (place_on s x.at x.near.0);
-    costs = λ p k l e. omega (arith, (entered cells s p k l formed.0 e).cost, formed.1.2 l.target);
-    lows = λ p. estimate_small (least_nonzero cells) p (least_within 255 cells formed.1.2);
+    targets = λ p k l e. let x = entered cells s p k l formed.sides e in subst (λ q. q < area s) x.target (place_on s x.at x.near.0);
+    costs = λ p k l e. omega (arith, (entered cells s p k l formed.sides e).cost, formed.bytes l.target);
+    lows = λ p. estimate_small (least_nonzero cells) p (least_within 255 cells formed.bytes);
   }
 
   grid_outside : Outside (grid_floor cells s)
   grid_outside = record {
     no_legs = λ p h. off p (area s) _ _ h;
     past_list = λ p k h. off k (leg_count s p) _ _ h;
-    no_goal = λ p h. ne_eqb p s.goal (λ same. omega (arith, formed.1.1));
+    no_goal = λ p h. ne_eqb p s.goal (λ same. omega (arith, formed.goal));
     no_low = λ p h. off p (area s) _ _ h;
   }
 
@@ -160,7 +166,7 @@ module _ (cells : List ℕ) (s : GridShape) (formed : Formed cells s) where
   goal_zero p e =
       let same : s.goal ≡ p = sym (eqb-true p s.goal e) in
       subst (λ q. low_of cells s q ≡ 0) same
-      (low_is s.goal formed.1.1 ∙ ap (λ d. least_nonzero cells * d) (none (position s s.goal)) ∙ mul-zero (least_nonzero cells))
+      (low_is s.goal formed.goal ∙ ap (λ d. least_nonzero cells * d) (none (position s s.goal)) ∙ mul-zero (least_nonzero cells))
     where
       none : (at : Position) → distance at at ≡ 0
       none at = omega arith
@@ -168,7 +174,7 @@ module _ (cells : List ℕ) (s : GridShape) (formed : Formed cells s) where
   -- a leg costs at least the least nonzero byte, and brings the goal nearer by at most 1
   leg_gentle : (p k : ℕ) (l : Leg) → leg_of cells s p k ≡ Some l → low_of cells s p ≤ l.cost + low_of cells s l.target
   leg_gentle p k l e =
-      let x = entered cells s p k l formed.0 e in
+      let x = entered cells s p k l formed.sides e in
       let m : ℕ = least_nonzero cells in
       let inside : l.target < area s = subst (λ q. q < area s) x.target (place_on s x.at x.near.0) in
       let there : to_goal s l.target ≡ distance x.at (position s s.goal) =
@@ -191,10 +197,10 @@ grid_sound cells s formed = record {
 
 pub grid_limited : (cells : List ℕ) (s : GridShape) → Formed cells s → Limited (grid_guesses cells s)
 grid_limited cells s formed =
-    let least : least_nonzero cells ≤ 255 = least_within 255 cells formed.1.2 in
-    let most : greatest cells ≤ 255 = greatest_within 255 cells formed.1.2 in
+    let least : least_nonzero cells ≤ 255 = least_within 255 cells formed.bytes in
+    let most : greatest cells ≤ 255 = greatest_within 255 cells formed.bytes in
     record {
       hopes = λ p. estimate_small cells s formed ((least_nonzero cells + greatest cells) / 2) p (omega arith);
       step_counts = λ p. cond_both (nat_lt p (area s)) (to_goal s p) 0 (λ x. x ≤ limit)
-          (λ e. omega (arith, to_goal_small s p formed.0 formed.1.1 (ltb-true _ _ e))) (λ e. omega arith);
+          (λ e. omega (arith, to_goal_small s p formed.sides formed.goal (ltb-true _ _ e))) (λ e. omega arith);
     }
