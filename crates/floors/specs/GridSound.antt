@@ -23,8 +23,9 @@ pub record Sides (s : GridShape) : Type 0 where
   pub height : s.height ≤ 64
 
 -- A row and a column of the grid.
-abbrev pub OnGrid : GridShape → Position → Type 0
-OnGrid s at = (at.row < s.height) × (at.column < s.width)
+pub record OnGrid (s : GridShape) (at : Position) : Type 0 where
+  pub row : at.row < s.height
+  pub column : at.column < s.width
 
 -- The sides are in range, each cell has its byte, and the goal is a place.
 pub record Formed (cells : List ℕ) (s : GridShape) : Type 0 where
@@ -36,14 +37,14 @@ pub record Formed (cells : List ℕ) (s : GridShape) : Type 0 where
 -- A place and its row and column determine each other.
 pub position_on : (s : GridShape) (p : ℕ) → Sides s → p < area s → OnGrid s (position s p)
 position_on s p sides on =
-    (div_below p s.width s.height sides.some_width (omega (arith, mul_comm s.width s.height)), mod_below p s.width sides.some_width)
+    record { row = div_below p s.width s.height sides.some_width (omega (arith, mul_comm s.width s.height)); column = mod_below p s.width sides.some_width }
 
 pub place_on : (s : GridShape) (at : Position) → OnGrid s at → place_at s at < area s
-place_on s at on = mul-add-lt at.row s.width at.column s.height on.0 on.1
+place_on s at on = mul-add-lt at.row s.width at.column s.height on.row on.column
 
 position_back : (s : GridShape) (at : Position) → OnGrid s at → position s (place_at s at) ≡ at
 position_back s at on =
-    ap₂ (λ (x y : ℕ). record { row = x; column = y }) (div-mul-add at.row s.width at.column on.1) (mod-mul-add at.row s.width at.column on.1)
+    ap₂ (λ (x y : ℕ). record { row = x; column = y }) (div-mul-add at.row s.width at.column on.column) (mod-mul-add at.row s.width at.column on.column)
 
 -- Two places of a grid are at most 126 apart.
 apart_small : (a b top : ℕ) → a ≤ top → b ≤ top → apart a b ≤ top
@@ -55,19 +56,20 @@ to_goal_small s p sides goal on =
     let b = position_on s s.goal sides goal in
     omega (
       arith,
-      apart_small (position s p).row (position s s.goal).row 63 (omega (arith, a.0, sides.height)) (omega (arith, b.0, sides.height)),
-      apart_small (position s p).column (position s s.goal).column 63 (omega (arith, a.1, sides.width)) (omega (arith, b.1, sides.width)),
+      apart_small (position s p).row (position s s.goal).row 63 (omega (arith, a.row, sides.height)) (omega (arith, b.row, sides.height)),
+      apart_small (position s p).column (position s s.goal).column 63 (omega (arith, a.column, sides.width)) (omega (arith, b.column, sides.width)),
     )
 
 -- A step stays on the grid and brings no goal nearer by more than 1.
-abbrev Near : GridShape → Position → Position → Position → Type 0
-Near s goal at next = OnGrid s next × (distance at goal ≤ 1 + distance next goal)
+record Near (s : GridShape) (goal at next : Position) : Type 0 where
+  inside : OnGrid s next
+  gentle : distance at goal ≤ 1 + distance next goal
 
 apart_triangle : (a b g : ℕ) → apart a g ≤ apart a b + apart b g
 apart_triangle a b g = omega arith
 
 one_step : (s : GridShape) (goal at next : Position) → OnGrid s next → distance at next ≤ 1 → Near s goal at next
-one_step s goal at next on short = (on, joined _ _ _ _ _ _ (apart_triangle at.row next.row goal.row) (apart_triangle at.column next.column goal.column) short)
+one_step s goal at next on short = record { inside = on; gentle = joined _ _ _ _ _ _ (apart_triangle at.row next.row goal.row) (apart_triangle at.column next.column goal.column) short }
   where
     joined : (x y a b u v : ℕ) → x ≤ a + u → y ≤ b + v → a + b ≤ 1 → x + y ≤ 1 + (u + v)
     joined x y a b u v h k short = omega arith
@@ -75,16 +77,16 @@ one_step s goal at next on short = (on, joined _ _ _ _ _ _ (apart_triangle at.ro
 neighbour_near : (s : GridShape) (goal at next : Position) (d : Direction) → OnGrid s at → neighbour s at d ≡ Some next → Near s goal at next
 neighbour_near s goal at next North on e =
     let (test, same) = cond_some (nat_lt 0 at.row) _ next e in
-    subst (Near s goal at) same (one_step s goal at _ (omega (arith, on.0), on.1) (omega arith))
+    subst (Near s goal at) same (one_step s goal at _ (record { row = omega (arith, on.row); column = on.column }) (omega arith))
 neighbour_near s goal at next East on e =
     let (test, same) = cond_some (nat_lt (at.column + 1) s.width) _ next e in
-    subst (Near s goal at) same (one_step s goal at _ (on.0, ltb-true _ _ test) (omega arith))
+    subst (Near s goal at) same (one_step s goal at _ (record { row = on.row; column = ltb-true _ _ test }) (omega arith))
 neighbour_near s goal at next South on e =
     let (test, same) = cond_some (nat_lt (at.row + 1) s.height) _ next e in
-    subst (Near s goal at) same (one_step s goal at _ (ltb-true _ _ test, on.1) (omega arith))
+    subst (Near s goal at) same (one_step s goal at _ (record { row = ltb-true _ _ test; column = on.column }) (omega arith))
 neighbour_near s goal at next West on e =
     let (test, same) = cond_some (nat_lt 0 at.column) _ next e in
-    subst (Near s goal at) same (one_step s goal at _ (on.0, omega (arith, on.1)) (omega arith))
+    subst (Near s goal at) same (one_step s goal at _ (record { row = on.row; column = omega (arith, on.column) }) (omega arith))
 
 -- What a usable leg from place p enters: a cell one step on, whose byte is not 0 and is the cost.
 record Entered (cells : List ℕ) (s : GridShape) (p : ℕ) (l : Leg) : Type 0 where
@@ -146,7 +148,7 @@ module _ (cells : List ℕ) (s : GridShape) (formed : Formed cells s) where
     some_place = mul-le 1 1 s.width s.height formed.sides.some_width formed.sides.some_height;
     few_places = mul-le s.width s.height 64 64 formed.sides.width formed.sides.height;
     few_legs = λ p. cond_both (nat_lt p (area s)) 4 0 (λ n. n ≤ 65535) (λ _. omega arith) (λ _. omega arith);
-    targets = λ p k l e. let x = entered cells s p k l formed.sides e in subst (λ q. q < area s) x.target (place_on s x.at x.near.0);
+    targets = λ p k l e. let x = entered cells s p k l formed.sides e in subst (λ q. q < area s) x.target (place_on s x.at x.near.inside);
     costs = λ p k l e. omega (arith, (entered cells s p k l formed.sides e).cost, formed.bytes l.target);
     lows = λ p. estimate_small (least_nonzero cells) p (least_within 255 cells formed.bytes);
   }
@@ -176,11 +178,11 @@ module _ (cells : List ℕ) (s : GridShape) (formed : Formed cells s) where
   leg_gentle p k l e =
       let x = entered cells s p k l formed.sides e in
       let m : ℕ = least_nonzero cells in
-      let inside : l.target < area s = subst (λ q. q < area s) x.target (place_on s x.at x.near.0) in
+      let inside : l.target < area s = subst (λ q. q < area s) x.target (place_on s x.at x.near.inside) in
       let there : to_goal s l.target ≡ distance x.at (position s s.goal) =
-      ap (λ q. distance q (position s s.goal)) (ap (position s) (sym x.target) ∙ position_back s x.at x.near.0) in
+      ap (λ q. distance q (position s s.goal)) (ap (position s) (sym x.target) ∙ position_back s x.at x.near.inside) in
       let least : m ≤ l.cost = subst (λ c. m ≤ c) x.cost ((least_is cells).below l.target (subst (λ c. 0 < c) (sym x.cost) x.some)) in
-      let step : to_goal s p ≤ 1 + to_goal s l.target = subst (λ d. to_goal s p ≤ 1 + d) (sym there) x.near.1 in
+      let step : to_goal s p ≤ 1 + to_goal s l.target = subst (λ d. to_goal s p ≤ 1 + d) (sym there) x.near.gentle in
       let more : m * to_goal s p ≤ m * (1 + to_goal s l.target) = mul-le-mul_left m step in
       rw (low_is p x.here, low_is l.target inside)
       (omega (arith, more, mul-add m 1 (to_goal s l.target), mul-one m, least))
