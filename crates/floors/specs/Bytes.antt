@@ -1,7 +1,6 @@
 -- Laws of the least nonzero and of the greatest byte.
-use Rattle.std.specs.Prelude.{◌≡◌, ℕ, zero, suc, ◌<◌, ◌≤◌, max, ◌⊎◌, List, [], ◌∷◌, fold, ◌≢◌, slice_index, slice_index_or, refl}
+use Rattle.std.specs.Prelude.{◌≡◌, ℕ, zero, suc, ◌<◌, ◌≤◌, max, ◌⊎◌, List, [], ◌∷◌, fold, slice_index, refl}
 use Rattle.std.proofs.Common.{inl, inr, ⊎_elim, sym, ◌∙◌, arith}
-use Rattle.std.proofs.lemmas.Bool.{cases_eq}
 use Rattle.floors.specs.Grid.{lesser_nonzero, least_nonzero, greatest}
 
 -- The lesser nonzero byte is none of the two where both are 0, and at most each that is not 0.
@@ -46,14 +45,11 @@ pub least_is : (cells : List ℕ) → IsLeast cells (least_nonzero cells)
 least_is cells = record {
   below = λ i some. (least_from 0 cells i some).1;
   one_of = λ some. ⊎_elim (λ (start : least_nonzero cells ≡ 0). absurd (omega arith)) (λ found. found) (picked lesser_nonzero one 0 cells);
-  none = λ zero_least i. ⊎_elim (λ (e : slice_index_or cells i 0 ≡ 0). e) (λ (some : slice_index_or cells i 0 ≡ 0 → ⊥). absurd (omega (arith, (least_from 0 cells i (positive (slice_index cells i) some)).0))) (cases_eq (slice_index cells i) 0);
+  none = λ zero_least i. grind (arith, least_from 0 cells i);
 }
   where
     one : (a b : ℕ) → (lesser_nonzero a b ≡ a) ⊎ (lesser_nonzero a b ≡ b)
     one a b = grind arith
-
-    positive : (n : ℕ) → (n ≢ 0) → 0 < n
-    positive n h = omega arith
 
 -- The greatest byte: it is one of the bytes, or 0, and none is greater.
 pub record IsGreatest (cells : List ℕ) (m : ℕ) : Type 0 where

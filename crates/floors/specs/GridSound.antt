@@ -123,13 +123,11 @@ entered cells s p k l sides = listed (nat_lt k (leg_count s p)) refl
         into at here (neighbour_near s (position s s.goal) (position s p) at (direction k) (position_on s p sides here) is)
         (slice_index cells (place_at s at) == 0) refl e
 
-    on : (t : Bool) → nat_lt p (area s) ≡ t → k < cond t 4 0 → p < area s
-    on true test below = ltb-true _ _ test
-    on false test below = absurd (omega arith)
-
     listed : (t : Bool) → nat_lt k (leg_count s p) ≡ t
         → cond t (leg_into cells s (neighbour s (position s p) (direction k))) None ≡ Some l → Entered cells s p l
-    listed true test e = toward (on (nat_lt p (area s)) refl (ltb-true _ _ test)) (neighbour s (position s p) (direction k)) refl e
+    listed true test e =
+        let here : p < area s = grind (arith, ltb-true _ _ test) in
+        toward here (neighbour s (position s p) (direction k)) refl e
     listed false test e = cc
 
 -- Off the grid a value held by its area is its default.
@@ -147,7 +145,7 @@ module _ (cells : List ℕ) (s : GridShape) (formed : Formed cells s) where
   grid_limits = record {
     some_place = mul-le 1 1 s.width s.height formed.sides.some_width formed.sides.some_height;
     few_places = mul-le s.width s.height 64 64 formed.sides.width formed.sides.height;
-    few_legs = λ p. cond_both (nat_lt p (area s)) 4 0 (λ n. n ≤ 65535) (λ _. omega arith) (λ _. omega arith);
+    few_legs = λ p. grind arith;
     targets = λ p k l e. let x = entered cells s p k l formed.sides e in subst (λ q. q < area s) x.target (place_on s x.at x.near.inside);
     costs = λ p k l e. omega (arith, (entered cells s p k l formed.sides e).cost, formed.bytes l.target);
     lows = λ p. estimate_small (least_nonzero cells) p (least_within 255 cells formed.bytes);
