@@ -2,7 +2,7 @@
 use Rattle.std.specs.Prelude.{◌≡◌, ℕ, ◌+◌, ◌*◌, ◌/◌, ◌<◌, ◌≤◌, Bool, true, false, cond, List, length, Some, None, Option, ◌==◌, nat_lt, slice_index, slice_index_or, refl}
 use Rattle.std.proofs.Common.{sym, ap, ap₂, subst, ◌∙◌, mul_comm, mul-add, mul-one, mul-zero, mul-le-mul_left, arith}
 use Rattle.std.proofs.lemmas.Nat.{div_below, mod_below, mul-add-lt, div-mul-add, mod-mul-add, mul-le}
-use Rattle.std.proofs.lemmas.Bool.{cond-true, cond-false, cond_both, ltb-true, le-ltb, lt-ltb, eqb-true, eqb-false, ne_eqb}
+use Rattle.std.proofs.lemmas.Bool.{cond-true, cond-false, ltb-true, le-ltb, lt-ltb, eqb-true, eqb-false, ne_eqb}
 use Rattle.std.proofs.lemmas.Option.{cond_some}
 use Rattle.floors.specs.declared.leg.Leg.{Leg}
 use Rattle.floors.specs.declared.grid_shape.Direction.{Direction}
@@ -65,14 +65,8 @@ record Near (s : GridShape) (goal at next : Position) : Type 0 where
   inside : OnGrid s next
   gentle : distance at goal ≤ 1 + distance next goal
 
-apart_triangle : (a b g : ℕ) → apart a g ≤ apart a b + apart b g
-apart_triangle a b g = omega arith
-
 one_step : (s : GridShape) (goal at next : Position) → OnGrid s next → distance at next ≤ 1 → Near s goal at next
-one_step s goal at next on short = record { inside = on; gentle = joined _ _ _ _ _ _ (apart_triangle at.row next.row goal.row) (apart_triangle at.column next.column goal.column) short }
-  where
-    joined : (x y a b u v : ℕ) → x ≤ a + u → y ≤ b + v → a + b ≤ 1 → x + y ≤ 1 + (u + v)
-    joined x y a b u v h k short = omega arith
+one_step s goal at next on short = record { inside = on; gentle = omega arith }
 
 neighbour_near : (s : GridShape) (goal at next : Position) (d : Direction) → OnGrid s at → neighbour s at d ≡ Some next → Near s goal at next
 neighbour_near s goal at next North on e =
@@ -137,9 +131,8 @@ off p size x y h = cond-false (nat_lt p size) x y (le-ltb p size h)
 module _ (cells : List ℕ) (s : GridShape) (formed : Formed cells s) where
   -- an estimate that counts at most so much for each leg is within the limit
   estimate_small : (each p : ℕ) → each ≤ 255 → cond (nat_lt p (area s)) (each * to_goal s p) 0 ≤ limit
-  estimate_small each p small = cond_both (nat_lt p (area s)) (each * to_goal s p) 0 (λ x. x ≤ limit)
-      (λ e. omega (arith, mul-le each (to_goal s p) 255 126 small (to_goal_small s p formed.sides formed.goal (ltb-true _ _ e))))
-      (λ e. omega arith)
+  estimate_small each p small =
+      grind (arith, λ (on : p < area s). mul-le each (to_goal s p) 255 126 small (to_goal_small s p formed.sides formed.goal on))
 
   grid_limits : Limits (grid_floor cells s)
   grid_limits = record {
@@ -201,6 +194,5 @@ grid_limited cells s formed =
     let most : greatest cells ≤ 255 = greatest_within 255 cells formed.bytes in
     record {
       hopes = λ p. estimate_small cells s formed ((least_nonzero cells + greatest cells) / 2) p (omega arith);
-      step_counts = λ p. cond_both (nat_lt p (area s)) (to_goal s p) 0 (λ x. x ≤ limit)
-          (λ e. omega (arith, to_goal_small s p formed.sides formed.goal (ltb-true _ _ e))) (λ e. omega arith);
+      step_counts = λ p. grind (arith, to_goal_small s p formed.sides formed.goal);
     }
