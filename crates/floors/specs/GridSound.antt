@@ -11,7 +11,7 @@ use Rattle.floors.specs.declared.grid_shape.GridShape.{GridShape}
 use Rattle.floors.specs.declared.grid_shape.Position.{Position}
 use Rattle.floors.specs.Bytes.{least_is, least_within, greatest_within}
 use Rattle.floors.specs.Consistent.{Consistent, consistent_admissible}
-use Rattle.floors.specs.Grid.{area, place_at, position, direction, neighbour, leg_into, leg_count, leg_of, least_nonzero, greatest, apart, distance, to_goal, low_of, grid_floor, grid_guesses}
+use Rattle.floors.specs.Grid.{area, place_at, position, direction, neighbour, leg_into, leg_count, leg_of, least_nonzero, greatest, distance, to_goal, low_of, grid_floor, grid_guesses}
 use Rattle.floors.specs.Guided.{Limited}
 use Rattle.floors.specs.Sound.{Limits, Outside, Sound, limit}
 
@@ -47,18 +47,11 @@ position_back s at on =
     ap₂ (λ (x y : ℕ). record { row = x; column = y }) (div-mul-add at.row s.width at.column on.column) (mod-mul-add at.row s.width at.column on.column)
 
 -- Two places of a grid are at most 126 apart.
-apart_small : (a b top : ℕ) → a ≤ top → b ≤ top → apart a b ≤ top
-apart_small a b top h k = omega arith
-
 pub to_goal_small : (s : GridShape) (p : ℕ) → Sides s → s.goal < area s → p < area s → to_goal s p ≤ 126
 to_goal_small s p sides goal on =
     let a = position_on s p sides on in
     let b = position_on s s.goal sides goal in
-    omega (
-      arith,
-      apart_small (position s p).row (position s s.goal).row 63 (omega (arith, a.row, sides.height)) (omega (arith, b.row, sides.height)),
-      apart_small (position s p).column (position s s.goal).column 63 (omega (arith, a.column, sides.width)) (omega (arith, b.column, sides.width)),
-    )
+    omega (arith, a.row, a.column, b.row, b.column, sides.width, sides.height)
 
 -- A step stays on the grid and brings no goal nearer by more than 1.
 record Near (s : GridShape) (goal at next : Position) : Type 0 where

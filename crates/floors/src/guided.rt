@@ -20,6 +20,7 @@ pub trait GuidedFloor: Floor {
 }
 
 // A borrowed guided floor is a guided floor.
+// Stays: each method is passed on by name, as for a floor.
 impl<F: GuidedFloor> GuidedFloor for &F {
     ghost guesses = { λ f. F.guesses f.now };
 
