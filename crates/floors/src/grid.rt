@@ -88,8 +88,9 @@ impl Floor for Grid {
     }
 
     fn leg(&self, place: u32, number: u32) -> Option<Leg> {
+        let direction = Direction::of(number)?;
         let at = self.frame.position(place)?;
-        let next = self.frame.neighbour(at, Direction::of(number)?)?;
+        let next = self.frame.neighbour(at, direction)?;
         self.enter(self.frame.place_at(next))
     }
 

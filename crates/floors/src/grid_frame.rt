@@ -39,13 +39,8 @@ impl Frame {
         if shape.goal >= places {
             return Err(GridFault::Goal);
         }
-        Ok(Frame {
-            shape,
-            goal: Position {
-                row: shape.goal / shape.width,
-                column: shape.goal % shape.width,
-            },
-        })
+        let goal = shape.position(shape.goal);
+        Ok(Frame { shape, goal })
     }
 
     // How many places there are.
@@ -60,10 +55,7 @@ impl Frame {
         ensures is { result ≡ then_some (nat_lt place (area self.shape)) (position self.shape place) }
         ensures inside { IfSome result (OnGrid self.shape) }
     {
-        (place < self.places()).then(|| Position {
-            row: place / self.shape.width,
-            column: place % self.shape.width,
-        })
+        (place < self.places()).then(|| self.shape.position(place))
     }
 
     // The distance from the place to the goal, if it is on the grid.

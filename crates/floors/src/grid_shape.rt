@@ -1,7 +1,7 @@
 // The shape of a grid as it is asked for, its places as rows and columns, and the ways between them.
-ghost use Rattle.std.specs.Prelude.{◌≡◌, nat_lt};
+ghost use Rattle.std.specs.Prelude.{◌≡◌, ◌≤◌, nat_lt};
 ghost use Rattle.std.specs.Bool.{then_some};
-ghost use Rattle.floors.specs.Grid.{direction};
+ghost use Rattle.floors.specs.Grid.{position, direction};
 
 // The sides of a grid and its goal.
 #[derive(Clone, Copy)]
@@ -23,6 +23,19 @@ pub enum Direction {
     East,
     South,
     West,
+}
+
+impl GridShape {
+    // The row and column of a place.
+    pub fn position(self, place: u32) -> Position
+        requires { 1 ≤ self.width }
+        ensures { result ≡ position self place }
+    {
+        Position {
+            row: place / self.width,
+            column: place % self.width,
+        }
+    }
 }
 
 impl Direction {

@@ -6,6 +6,7 @@ use std::marker::Model;
 use std::mem::replace;
 
 // A flag for each place that a floor can have, and how many are set.
+// Stays: a call of the library has no heap for a set, and the count spares a walk over 4,096 flags.
 #[derive(Drop)]
 pub struct ShutSet {
     flags: [bool; 4096],

@@ -78,11 +78,7 @@ fn two_over_one(rt: HostRuntime) -> Result<(), Fail> {
 
 // The bytes of the six-place sample.
 fn sample(heap: Global) -> Result<Vec<u8>, AllocError> {
-    let mut layout = Vec::new(heap);
-    for record in &six_places() {
-        layout.extend_from_slice(record)?;
-    }
-    Ok(layout)
+    six_places().as_flattened().to_vec(heap)
 }
 
 #[test]
