@@ -1,5 +1,5 @@
 -- Laws of the lowest number that fails a test.
-use Rattle.std.proofs.Common.{◌≡◌, ℕ, zero, suc, ◌+◌, ◌<◌, ◌≤◌, MatchOption, Bool, true, false, cond, ◌⊎◌, Some, None, Option, sym, refl, ◌∙◌, subst, inl, inr, ⊎_elim, add-one, arith}
+use Rattle.std.proofs.Common.{◌≡◌, ℕ, zero, suc, ◌<◌, ◌≤◌, MatchOption, Bool, true, false, cond, ◌⊎◌, Some, None, Option, sym, refl, ◌∙◌, subst, inl, inr, ⊎_elim, arith}
 use Rattle.std.proofs.lemmas.Bool.{cases_eq}
 use Rattle.layout.specs.Lowest.{lowest, IsLowest}
 
@@ -17,11 +17,6 @@ module _ (fails : ℕ → Bool) where
   lowest_suc : (n : ℕ) → lowest fails (suc n) ≡ step (lowest fails n) (fails n) n
   unfolding step
   lowest_suc n = refl
-
-  -- one more record that passes
-  pub lowest_more : (n : ℕ) → lowest fails n ≡ None → fails n ≡ false → lowest fails (n + 1) ≡ None
-  unfolding step
-  lowest_more n e f = rw (add-one, lowest_suc n, e, f)
 
   -- the lowest stays the lowest, however many follow
   pub lowest_found : (i n : ℕ) → lowest fails i ≡ None → fails i ≡ true → i < n → lowest fails n ≡ Some i

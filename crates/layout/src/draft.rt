@@ -14,6 +14,7 @@ pub struct Draft<'a> {
     ghost ordered: { Ordered divided.layout.now divided.counts },
 }
 
+// Stays: beside the layout floor, since one borrows and estimates 0 while the other owns and reads; what they share is in `Divided`.
 impl Floor for Draft<'_> {
     ghost meaning = { λ d. floor_under (λ _. 0) d.divided.layout.now d.divided.counts };
 

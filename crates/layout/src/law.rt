@@ -30,6 +30,7 @@ fn drops_along(layout: &[u8], place: u32, leg: Option<Leg>) -> bool
 fn first_steep_leg<F: Floor>(floor: &F, layout: &[u8]) -> Option<(u32, u32)>
     ensures { FirstSteep (F.Floor.meaning floor.now) (λ p. (record_at layout.now p).word1) result }
 {
+    // Stays: a rule of the project: low estimates are asked over places and legs in nested loops left by a label.
     let mut found = None;
     'places: for place in 0..floor.places() {
         for number in 0..floor.legs(place) {

@@ -142,7 +142,16 @@ fn low_falls_by_the_cost(rt: HostRuntime) -> Result<(), Fail> {
         heap,
         9,
         &[
-            (&[five, plain(3), encode_leg(1, 5), encode_leg(1, 4), encode_leg(1, 3)], 3),
+            (
+                &[
+                    five,
+                    plain(3),
+                    encode_leg(1, 5),
+                    encode_leg(1, 4),
+                    encode_leg(1, 3),
+                ],
+                3,
+            ),
             (&[five, nine, level, encode_leg(0, 3)], 3),
         ],
     )?;

@@ -1,13 +1,7 @@
-use Rattle.std.proofs.Common.{◌≡◌, vec_items, refl, ap, ◌∙◌, subst, ap₂}
-use Rattle.layout.specs.Formed.{Formed, Lawful}
+use Rattle.std.proofs.Common.{◌≡◌, vec_items, refl, ap, ◌∙◌, ap₂}
 use Rattle.layout.specs.Layout.{counts, floor_of, guesses_of}
 use Rattle.layout.specs.Verdict.{verdict}
 use Rattle.layout.proofs.accept.intake.Goals as goal
-
-pub new-requires : goal.new-requires
-new-requires c =
-    let fine = subst (λ bs. Formed bs c.in-Ok.counts × Lawful bs c.in-Ok.counts) c.as_slice.ensures.value c.in-Ok.ensures.fine in
-    record { formed = fine.0; lawful = fine.1 }
 
 pub returns-in-Ok : goal.returns-in-Ok
 returns-in-Ok c =
