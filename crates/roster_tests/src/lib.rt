@@ -28,6 +28,7 @@ pub struct Node {
     pub far_slot: u16,
 }
 
+// Stays: the impls of the two queues name their fields. One impl for both would index an array of seats, and its laws would need a bound on the index.
 impl Slot<Low> for Node {
     type Entry = CostEntry;
 
