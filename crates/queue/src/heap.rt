@@ -9,6 +9,8 @@ ghost use Rattle.queue.specs.Sift.{Risen, Sunk};
 use crate::order::Ranked;
 use crate::slot::Slot;
 
+// Stays: a queue is the first n of the slots that its caller lends, and the caller keeps n. A struct over `&mut` slots could state no such bound in a ghost field.
+
 // The head of a queue of n: its least entry, or none if it is empty.
 pub fn head<Q, R: Slot<Q>>(slots: &[R], n: usize) -> Option<R::Entry>
     requires { n ≤ length slots.now }
@@ -28,6 +30,7 @@ pub fn insert<Q, R: Slot<Q>>(slots: &mut [R], n: usize, e: R::Entry) -> usize
 }
 
 // Removes the entry in slot i of a queue of n, and returns the deepest slot that changed, or 0 where i was the last slot and nothing moved.
+// Stays: 0 is on every path, so one walk up from the answer serves both cases, which an `Option` would tell apart.
 pub fn remove_at<Q, R: Slot<Q>>(slots: &mut [R], n: usize, i: usize) -> usize
     requires queue { n ≤ length slots.old }
     requires slot { i < n }

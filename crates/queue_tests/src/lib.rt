@@ -20,7 +20,7 @@ pub struct Low;
 
 pub struct Near;
 
-#[derive(Clone, Copy)]
+#[derive(Clone, Copy, Default)]
 pub struct Node {
     pub tag: u32,
     pub low: CostEntry,
@@ -103,7 +103,7 @@ pub fn insert_near(slots: &mut [Node], n: usize, e: NearEntry) -> usize
 // The marker of the queue of events.
 pub struct Calendar;
 
-#[derive(Clone, Copy)]
+#[derive(Clone, Copy, PartialEq, Eq, PartialOrd, Ord)]
 pub struct Event {
     pub time: u64,
     pub number: u16,
@@ -115,7 +115,7 @@ impl Ranked for Event {
     ghost ordered = { Prim.search rules };
 
     fn at_most(&self, other: &Event) -> bool {
-        self.time < other.time || (self.time == other.time && self.number <= other.number)
+        self <= other
     }
 }
 

@@ -25,9 +25,8 @@ fn near(steps: u32, place: u32) -> NearEntry {
 fn node(tag: u32) -> Node {
     Node {
         tag,
-        low: cost(0, 0),
-        low_slot: 0,
         near: near(0, 0),
+        ..Node::default()
     }
 }
 
@@ -35,10 +34,7 @@ fn node(tag: u32) -> Node {
 fn least_event(slots: &[Event], n: usize) -> u16
     requires { n ≤ length slots.now }
 {
-    match heap::head::<Calendar, Event>(slots, n) {
-        Some(e) => e.number,
-        None => 0,
-    }
+    heap::head::<Calendar, Event>(slots, n).map_or(0, |e| e.number)
 }
 
 #[test]
@@ -68,20 +64,14 @@ fn events_leave_in_order(rt: HostRuntime) {
 fn least_low(slots: &[Node], n: usize) -> u32
     requires { n ≤ length slots.now }
 {
-    match heap::head::<Low, Node>(slots, n) {
-        Some(e) => e.place,
-        None => 99,
-    }
+    heap::head::<Low, Node>(slots, n).map_or(99, |e| e.place)
 }
 
 // The place of the least entry of the near queue, or 99.
 fn least_near(slots: &[Node], n: usize) -> u32
     requires { n ≤ length slots.now }
 {
-    match heap::head::<Near, Node>(slots, n) {
-        Some(e) => e.place,
-        None => 99,
-    }
+    heap::head::<Near, Node>(slots, n).map_or(99, |e| e.place)
 }
 
 #[test]

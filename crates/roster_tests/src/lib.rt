@@ -19,7 +19,7 @@ pub struct Low;
 
 pub struct Far;
 
-#[derive(Clone, Copy)]
+#[derive(Clone, Copy, Default)]
 pub struct Node {
     pub plan: u32,
     pub low: CostEntry,
@@ -28,6 +28,7 @@ pub struct Node {
     pub far_slot: u16,
 }
 
+// Stays: the impls of the two queues name their fields. One impl for both would index an array of seats, and its laws would need a bound on the index.
 impl Slot<Low> for Node {
     type Entry = CostEntry;
 
@@ -123,21 +124,20 @@ impl Expect<Low, Node> for Plans {
     ghost wanted = { λ _ n h. planned n h };
 
     fn expected(&self, node: &Node, home: usize) -> Option<CostEntry> {
-        if node.plan == 0 {
-            None
-        } else {
-            Some(CostEntry {
-                cost: node.plan,
-                place: home as u32,
-            })
-        }
+        let e = CostEntry {
+            cost: node.plan,
+            place: home as u32,
+        };
+        (node.plan != 0).then_some(e)
     }
 }
 
 // Plans a cost for a home that has no plan, in a low queue of n that holds what is planned. The far queue goes on holding what it holds.
 pub fn plan(slots: &mut [Node], n: usize, home: usize, cost: u32)
     requires holds { LowHolds (expected_in planned slots.old) n slots.old }
-    requires home { (home < length slots.old) × ((length slots.old ≤ 2 ^ 16) × (expected_in planned slots.old home ≡ None)) }
+    requires home { home < length slots.old }
+    requires limit { length slots.old ≤ 2 ^ 16 }
+    requires free { expected_in planned slots.old home ≡ None }
     requires cost { 0 < cost }
     ensures low { LowHolds (expected_in planned slots.new) (n + 1) slots.new }
     ensures far { (y : ℕ → OptionOf CostEntryOf) (m : ℕ) → FarHolds y m slots.old → FarHolds y m slots.new }

@@ -13,8 +13,7 @@ fn node(plan: u32, low: CostEntry, low_slot: u16) -> Node {
         plan,
         low,
         low_slot,
-        far: cost(0, 0),
-        far_slot: 0,
+        ..Node::default()
     }
 }
 
@@ -22,10 +21,7 @@ fn node(plan: u32, low: CostEntry, low_slot: u16) -> Node {
 fn checked(slots: &[Node]) -> usize
     requires { length slots.now ≤ 2 ^ 16 }
 {
-    match check::<Low, Node, Plans>(&Plans, slots) {
-        Some(n) => n,
-        None => 99,
-    }
+    check::<Low, Node, Plans>(&Plans, slots).unwrap_or(99)
 }
 
 #[test]
@@ -51,33 +47,25 @@ fn a_wrong_table_is_refused(rt: HostRuntime) {
         checked(&[node(0, first, 9), node(5, second, 1), node(3, first, 0)]),
         2
     );
-    // The order turned, a wrong cost, a wrong note, a home past the last record, a home with no plan, and a plan with no entry.
-    assert_eq!(rt;
-        checked(&[node(0, second, 9), node(5, first, 0), node(3, first, 1)]),
-        99
-    );
-    assert_eq!(rt;
-        checked(&[
+    let wrong = [
+        // The order turned.
+        [node(0, second, 9), node(5, first, 0), node(3, first, 1)],
+        // A wrong cost.
+        [
             node(0, cost(4, 2), 9),
             node(5, second, 1),
             node(3, first, 0),
-        ],),
-        99
-    );
-    assert_eq!(rt;
-        checked(&[node(0, first, 9), node(5, second, 2), node(3, first, 0)]),
-        99
-    );
-    assert_eq!(rt;
-        checked(&[node(0, first, 9), node(5, cost(5, 3), 1), node(3, first, 0)]),
-        99
-    );
-    assert_eq!(rt;
-        checked(&[node(0, first, 9), node(5, cost(5, 0), 1), node(3, first, 0)]),
-        99
-    );
-    assert_eq!(rt;
-        checked(&[node(0, first, 9), node(5, first, 0), node(3, first, 0)]),
-        99
-    );
+        ],
+        // A wrong note.
+        [node(0, first, 9), node(5, second, 2), node(3, first, 0)],
+        // A home past the last record.
+        [node(0, first, 9), node(5, cost(5, 3), 1), node(3, first, 0)],
+        // A home with no plan.
+        [node(0, first, 9), node(5, cost(5, 0), 1), node(3, first, 0)],
+        // A plan with no entry.
+        [node(0, first, 9), node(5, first, 0), node(3, first, 0)],
+    ];
+    for table in &wrong {
+        assert_eq!(rt; checked(table), 99);
+    }
 }

@@ -19,9 +19,11 @@ pub insert-requires : goal.insert-requires
 insert-requires c =
     let H = c.requires.holds in
     record {
-      room = (holds_room cost_at_most (λ e. e.place) (λ n. n.low) (λ n. n.low_slot) H c.args.home c.requires.home.0 c.requires.home.1.1, c.requires.home.1.0);
+      room = holds_room cost_at_most (λ e. e.place) (λ n. n.low) (λ n. n.low_slot) H c.args.home c.requires.home c.requires.free;
+      limit = c.requires.limit;
       notes = H.notes;
-      home = (c.requires.home.0, holds_absent cost_at_most (λ e. e.place) (λ n. n.low) (λ n. n.low_slot) H c.args.home c.requires.home.1.1);
+      home = c.requires.home;
+      absent = holds_absent cost_at_most (λ e. e.place) (λ n. n.low) (λ n. n.low_slot) H c.args.home c.requires.free;
     }
 
 pub returns : goal.returns
@@ -33,10 +35,10 @@ returns c =
     let ys = c.insert.new.slots in
     let e : CostEntry = record { cost = c.args.cost; place = c.args.home } in
     let r' = with_plan (get_or ys c.args.home blank) c.args.cost in
-    let within : c.args.home < length ys = omega (arith, F.same_length, c.requires.home.0) in
-    let room = holds_room cost_at_most (λ e. e.place) (λ n. n.low) (λ n. n.low_slot) H c.args.home c.requires.home.0 c.requires.home.1.1 in
+    let within : c.args.home < length ys = omega (arith, F.same_length, c.requires.home) in
+    let room = holds_room cost_at_most (λ e. e.place) (λ n. n.low) (λ n. n.low_slot) H c.args.home c.requires.home c.requires.free in
     let now_planned : planned r' c.args.home ≡ Some e = cond-false _ _ _ (ne_eqb c.args.cost 0 (λ z. omega (arith, c.requires.cost))) in
-    let inserted = holds_inserted cost_at_most (λ e. e.place) (λ n. n.low) (λ n. n.low_slot) cost_ordered H e room c.requires.home.1.1 c.insert.ensures.queue c.insert.ensures.notes F in
+    let inserted = holds_inserted cost_at_most (λ e. e.place) (λ n. n.low) (λ n. n.low_slot) cost_ordered H e room c.requires.free c.insert.ensures.queue c.insert.ensures.notes F in
     record {
       low = holds_same cost_at_most (λ e. e.place) (λ n. n.low) (λ n. n.low_slot)
           (holds_set cost_at_most (λ e. e.place) (λ n. n.low) (λ n. n.low_slot) inserted c.args.home blank r' refl refl)

@@ -1,9 +1,9 @@
-use Rattle.std.proofs.Common.{◌<◌, length, rules}
+use Rattle.std.proofs.Common.{◌<◌, length, arith, rules}
 use Rattle.roster.proofs.Updating.{update_room, update_used, updated_inserted, updated_removed, updated_replaced}
 use Rattle.roster.proofs.update.update.Goals as goal
 
 pub insert-requires-clause-room : goal.insert-requires-clause-room
-insert-requires-clause-room g c = update_room g.R.Entry.Ranked.at_most _ _ _ c.requires c.in-Some-false.is-1
+insert-requires-clause-room g c = omega (arith, update_room g.R.Entry.Ranked.at_most _ _ _ c.requires c.in-Some-false.is-1)
 
 pub overflow_add-result : goal.overflow_add-result
 overflow_add-result g c =
