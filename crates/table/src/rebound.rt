@@ -19,7 +19,8 @@ use search_model::search::Search;
 
 // Inserts the place into a near queue of n if it is near, and returns the number of entries.
 fn add_near(state: Search, least: u32, table: &mut [Node], n: usize, place: usize) -> usize
-    requires few { (length table.old ≤ 4294967296) × (place < length table.old) }
+    requires few { length table.old ≤ 4294967296 }
+    requires place { place < length table.old }
     requires limits { RecordLimits (record_at (records table.old) place) }
     requires near { NearBelow state least table.old place n table.old }
     ensures near { NearBelow state least table.old (place + 1) result table.new }

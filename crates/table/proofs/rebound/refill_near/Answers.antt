@@ -10,7 +10,8 @@ pub add_near-n-requires : goal.add_near-n-requires
 add_near-n-requires c =
     let o = c.loop-place.invariant.0 in
     record {
-      few = (omega arith, omega arith);
+      few = omega arith;
+      place = omega arith;
       limits = limits_from _ _ o c.requires.limits c.loop-place.place;
       near = near_from c.args.state c.args.least _ _ c.loop-place.place c.loop-place.n c.loop-place.table o c.loop-place.invariant.1;
     }
