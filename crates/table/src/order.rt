@@ -13,7 +13,7 @@ ghost use Rattle.table.specs.declared.node.Node.{Node};
 
 use crate::node::Node;
 use crate::seats::{Hope, Low, Near};
-use crate::wanted::{HopeWanted, LowWanted, NearWanted, is_right};
+use crate::wanted::{NearWanted, OpenWanted, is_right};
 use queue::heap;
 use roster::check;
 use search_model::search::Search;
@@ -58,7 +58,7 @@ impl Limited<'_> {
     fn check_low(&self) -> Option<usize>
         ensures { result ≡ when (low_right self.now.nodes.now) (open_count self.now.nodes.now) }
     {
-        check::check::<Low, Node, LowWanted>(&LowWanted, self.nodes)
+        check::check::<Low, Node, OpenWanted>(&OpenWanted, self.nodes)
     }
 
     // The number of open places, if the hope queue holds them.
@@ -66,7 +66,7 @@ impl Limited<'_> {
         ensures answer { result ≡ when (hope_right self.now.nodes.now) (open_count self.now.nodes.now) }
         ensures held { HopeHeld self.now.nodes.now result }
     {
-        check::check::<Hope, Node, HopeWanted>(&HopeWanted, self.nodes)
+        check::check::<Hope, Node, OpenWanted>(&OpenWanted, self.nodes)
     }
 
     // The number of near places for the least f̂, if the near queue holds them.
