@@ -10,12 +10,12 @@ use Rattle.roster.proofs.Expectations.{none_some, some_same}
 use Rattle.roster.specs.Check.{expected_in}
 use Rattle.roster.specs.Holds.{expected_count}
 use Rattle.search_model.specs.declared.records.Record.{Record}
-use Rattle.search_model.specs.Records.{at, blank, is_open, f, f_hat, Open}
+use Rattle.search_model.specs.Records.{at, blank, is_open, Open}
 use Rattle.table.specs.declared.node.Node.{Node}
 use Rattle.table.specs.Asked.{askable, asked, right_at, records_right, when}
 use Rattle.table.specs.Fresh.{blank_node}
 use Rattle.table.specs.Order.{record_right}
-use Rattle.table.specs.Table.{records, open_entry, low_wanted, hope_wanted}
+use Rattle.table.specs.Table.{records, open_entry}
 
 -- the record of a node
 abbrev pub kept_of : Node → Record
@@ -97,9 +97,9 @@ module _ (key : Record → ℕ) (t : List Node) (h : ℕ) where
   is_expected : is_some (expected_in (open_entry key) t h) ≡ is_open (at (records t) h)
   is_expected = ap is_some expected_open ∙ some_when (is_open (at (records t) h)) _
 
--- the low and the hope queue want the same places
-pub counts_same : (t : List Node) (m : ℕ) → expected_count (expected_in low_wanted t) m ≡ expected_count (expected_in hope_wanted t) m
-counts_same t zero = refl
-counts_same t (suc m) =
-    ap (λ (n : ℕ). n + cond (is_some (expected_in low_wanted t m)) 1 0) (counts_same t m)
-    ∙ ap (λ (b : Bool). expected_count (expected_in hope_wanted t) m + cond b 1 0) (is_expected f t m ∙ sym (is_expected f_hat t m))
+-- queues of every open place want the same places, by any key
+pub counts_same : (key other : Record → ℕ) (t : List Node) (m : ℕ) → expected_count (expected_in (open_entry key) t) m ≡ expected_count (expected_in (open_entry other) t) m
+counts_same key other t zero = refl
+counts_same key other t (suc m) =
+    ap (λ (n : ℕ). n + cond (is_some (expected_in (open_entry key) t m)) 1 0) (counts_same key other t m)
+    ∙ ap (λ (b : Bool). expected_count (expected_in (open_entry other) t) m + cond b 1 0) (is_expected key t m ∙ sym (is_expected other t m))
