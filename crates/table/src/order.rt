@@ -62,11 +62,11 @@ impl Limited<'_> {
         check::check::<Q, Node, OpenWanted>(&OpenWanted, self.nodes)
     }
 
-    // The number of near places for the least f̂, if the near queue holds them.
-    fn check_near(&self, state: Search, least: u32) -> Option<usize>
-        ensures { result ≡ when (near_right state least self.now.nodes.now) (near_count state least self.now.nodes.now) }
+    // The number of near places, if the near queue holds them.
+    fn check_near(&self, near: NearWanted) -> Option<usize>
+        ensures { result ≡ when (near_right near.state near.least self.now.nodes.now) (near_count near.state near.least self.now.nodes.now) }
     {
-        check::check::<Near, Node, NearWanted>(&NearWanted { state, least }, self.nodes)
+        check::check::<Near, Node, NearWanted>(&near, self.nodes)
     }
 
     // The numbers of open and of near places, if every queue holds what it should.
@@ -76,7 +76,7 @@ impl Limited<'_> {
         self.check_open::<Low>()?;
         let opened = self.check_open::<Hope>()?;
         let least = least_hope(self.nodes, opened);
-        let nears = self.check_near(state, least)?;
+        let nears = self.check_near(NearWanted { state, least })?;
         Some(Queued { opened, nears })
     }
 }
