@@ -64,21 +64,6 @@ pub some_when : {A : Type 0} (b : Bool) (x : A) → is_some (when b x) ≡ b
 some_when true x = refl
 some_when false x = refl
 
-pub when_none : {A : Type 0} (b : Bool) (x : A) → None ≡ when b x → b ≡ false
-when_none true x e = absurd (none_some None x refl e)
-when_none false x e = refl
-
-pub when_some : {A : Type 0} (b : Bool) (x y : A) → Some y ≡ when b x → (b ≡ true) × (y ≡ x)
-when_some true x y e = (refl, some_same (Some y) y x refl e)
-when_some false x y e = absurd (none_some (Some y) y e refl)
-
--- another value under the same test
-pub when_some_by : {A B : Type 0} (g : A → B) (b : Bool) (x y : A) → Some y ≡ when b x → Some (g y) ≡ when b (g x)
-when_some_by g b x y e = let p = when_some b x y e in ap (λ (z : _). Some (g z)) p.1 ∙ sym (cond-true _ _ _ p.0)
-
-pub when_none_by : {A B : Type 0} (b : Bool) (x : A) (y : B) → None ≡ when b x → None ≡ when b y
-when_none_by b x y e = sym (cond-false _ _ _ (when_none b x e))
-
 module _ (key : Record → ℕ) (t : List Node) (h : ℕ) where
   pub expected_open : expected_in (open_entry key) t h ≡ open_of key (at (records t) h) h
   expected_open = expected_by (open_of key) t h refl

@@ -3,7 +3,7 @@ use Rattle.table.proofs.OrderRebound.{near_room, near_skipped, near_added, near_
 use Rattle.table.proofs.wanted.NearWanted.add.Goals as goal
 
 pub insert-requires-clause-room : goal.insert-requires-clause-room
-insert-requires-clause-room c = (near_room c.args.self.state c.args.self.least c.args.table.now c.args.place c.args.n c.requires.place c.requires.near, c.requires.few)
+insert-requires-clause-room c = near_room c.args.self.state c.args.self.least c.args.table.now c.args.place c.args.n c.requires.place c.requires.near
 
 pub returns-then-is_near-clause-near : goal.returns-then-is_near-clause-near
 returns-then-is_near-clause-near c =
