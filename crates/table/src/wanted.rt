@@ -63,52 +63,16 @@ pub fn is_near(state: Search, least: u32, kept: Record) -> bool
     requires { record_right kept ≡ true }
     ensures { result ≡ is_near state least kept }
 {
-    kept.is_open() && is_within(state.bound, least, hope_sum(kept))
-}
-
-// A place's entry by f.
-pub fn by_low(kept: Record, place: u32) -> CostEntry
-    requires { f kept < 2 ^ 32 }
-    ensures { result ≡ record { cost = f kept; place = place } }
-{
-    CostEntry {
-        cost: low_sum(kept),
-        place,
-    }
-}
-
-// A place's entry by f̂.
-pub fn by_hope(kept: Record, place: u32) -> CostEntry
-    requires { f_hat kept < 2 ^ 32 }
-    ensures { result ≡ record { cost = f_hat kept; place = place } }
-{
-    CostEntry {
-        cost: hope_sum(kept),
-        place,
-    }
-}
-
-// A place's entry by rank, then by f̂.
-pub fn by_rank(kept: Record, place: u32) -> NearEntry
-    requires { f_hat kept < 2 ^ 32 }
-    ensures { result ≡ record { steps = kept.steps; cost = f_hat kept; place = place } }
-{
-    let cost = hope_sum(kept);
-    NearEntry {
-        steps: kept.steps,
-        cost,
-        place,
-    }
+    kept.is_open() && is_within(state.bound, least, Hope::sum(kept))
 }
 
 // A queue of every open place, by a key of its record.
 pub trait Keyed: Seated<Entry = CostEntry> {
     ghost key: { Record → ℕ };
 
-    // A place's entry by the key.
-    fn by_key(kept: Record, place: u32) -> CostEntry
+    fn sum(kept: Record) -> u32
         requires { key kept < 2 ^ 32 }
-        ensures { result ≡ record { cost = key kept; place = place } };
+        ensures { result ≡ key kept };
 
     ghost small: { (r : Record) → SeenLimits r → key r < 2 ^ 32 };
 }
@@ -118,8 +82,8 @@ impl Keyed for Low {
 
     ghost small = { Prim.search rules };
 
-    fn by_key(kept: Record, place: u32) -> CostEntry {
-        by_low(kept, place)
+    fn sum(kept: Record) -> u32 {
+        low_sum(kept)
     }
 }
 
@@ -128,8 +92,46 @@ impl Keyed for Hope {
 
     ghost small = { Prim.search rules };
 
-    fn by_key(kept: Record, place: u32) -> CostEntry {
-        by_hope(kept, place)
+    fn sum(kept: Record) -> u32 {
+        hope_sum(kept)
+    }
+}
+
+// A place's entry by the key of a queue.
+pub fn by_key<Q: Keyed>(kept: Record, place: u32) -> CostEntry
+    requires { Q.key kept < 2 ^ 32 }
+    ensures { result ≡ record { cost = Q.key kept; place = place } }
+{
+    let cost = Q::sum(kept);
+    CostEntry { cost, place }
+}
+
+// A place's entry by f.
+pub fn by_low(kept: Record, place: u32) -> CostEntry
+    requires { f kept < 2 ^ 32 }
+    ensures { result ≡ record { cost = f kept; place = place } }
+{
+    by_key::<Low>(kept, place)
+}
+
+// A place's entry by f̂.
+pub fn by_hope(kept: Record, place: u32) -> CostEntry
+    requires { f_hat kept < 2 ^ 32 }
+    ensures { result ≡ record { cost = f_hat kept; place = place } }
+{
+    by_key::<Hope>(kept, place)
+}
+
+// A place's entry by rank, then by f̂.
+pub fn by_rank(kept: Record, place: u32) -> NearEntry
+    requires { f_hat kept < 2 ^ 32 }
+    ensures { result ≡ record { steps = kept.steps; cost = f_hat kept; place = place } }
+{
+    let cost = Hope::sum(kept);
+    NearEntry {
+        steps: kept.steps,
+        cost,
+        place,
     }
 }
 
@@ -139,7 +141,7 @@ pub fn want<Q: Keyed>(node: Node, place: u32) -> Option<CostEntry>
     ensures { result ≡ open_entry Q.key node place }
 {
     let kept = node.kept;
-    kept.is_open().then(|| Q::by_key(kept, place))
+    kept.is_open().then(|| by_key::<Q>(kept, place))
 }
 
 // The entry that the low queue wants of a place.
