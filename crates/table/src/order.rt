@@ -4,7 +4,7 @@ ghost use Rattle.std.specs.List.{list_all};
 ghost use Rattle.queue.specs.Keys.{cost_at_most};
 ghost use Rattle.roster.specs.Check.{expected_in};
 ghost use Rattle.roster.specs.Holds.{Holds};
-ghost use Rattle.table.specs.Asked.{right_at, records_right, low_right, hope_right, near_right, queues_right, open_count, near_count, counted, queued, when, HopeHeld, DecidedOrder};
+ghost use Rattle.table.specs.Asked.{records_right, open_right, near_right, queues_right, open_count, near_count, counted, when, OpenHeld, DecidedOrder};
 ghost use Rattle.table.specs.Law.{OrderLaw};
 ghost use Rattle.table.specs.Order.{cost_place, record_right, in_order};
 ghost use Rattle.table.specs.Seats.{hope_entry, hope_note};
@@ -13,7 +13,7 @@ ghost use Rattle.table.specs.declared.node.Node.{Node};
 
 use crate::node::Node;
 use crate::seats::{Hope, Low, Near};
-use crate::wanted::{HopeWanted, LowWanted, NearWanted, is_right};
+use crate::wanted::{Keyed, NearWanted, OpenWanted, is_right};
 use queue::heap;
 use roster::check;
 use search_model::search::Search;
@@ -54,36 +54,29 @@ struct Limited<'a> {
 }
 
 impl Limited<'_> {
-    // The number of open places, if the low queue holds them.
-    fn check_low(&self) -> Option<usize>
-        ensures { result ≡ when (low_right self.now.nodes.now) (open_count self.now.nodes.now) }
+    // The number of open places, if the queue holds them by its key.
+    fn check_open<Q: Keyed>(&self) -> Option<usize>
+        ensures answer { result ≡ when (open_right Q.key Q.seat_of self.now.nodes.now) (open_count self.now.nodes.now) }
+        ensures held { OpenHeld Q.key Q.seat_of self.now.nodes.now result }
     {
-        check::check::<Low, Node, LowWanted>(&LowWanted, self.nodes)
+        check::check::<Q, Node, OpenWanted>(&OpenWanted, self.nodes)
     }
 
-    // The number of open places, if the hope queue holds them.
-    fn check_hope(&self) -> Option<usize>
-        ensures answer { result ≡ when (hope_right self.now.nodes.now) (open_count self.now.nodes.now) }
-        ensures held { HopeHeld self.now.nodes.now result }
+    // The number of near places, if the near queue holds them.
+    fn check_near(&self, near: NearWanted) -> Option<usize>
+        ensures { result ≡ when (near_right near.state near.least self.now.nodes.now) (near_count near.state near.least self.now.nodes.now) }
     {
-        check::check::<Hope, Node, HopeWanted>(&HopeWanted, self.nodes)
-    }
-
-    // The number of near places for the least f̂, if the near queue holds them.
-    fn check_near(&self, state: Search, least: u32) -> Option<usize>
-        ensures { result ≡ when (near_right state least self.now.nodes.now) (near_count state least self.now.nodes.now) }
-    {
-        check::check::<Near, Node, NearWanted>(&NearWanted { state, least }, self.nodes)
+        check::check::<Near, Node, NearWanted>(&near, self.nodes)
     }
 
     // The numbers of open and of near places, if every queue holds what it should.
     fn check_queues(&self, state: Search) -> Option<Queued>
         ensures { result ≡ when (queues_right state self.now.nodes.now) (counted state self.now.nodes.now) }
     {
-        self.check_low()?;
-        let opened = self.check_hope()?;
+        self.check_open::<Low>()?;
+        let opened = self.check_open::<Hope>()?;
         let least = least_hope(self.nodes, opened);
-        let nears = self.check_near(state, least)?;
+        let nears = self.check_near(NearWanted { state, least })?;
         Some(Queued { opened, nears })
     }
 }

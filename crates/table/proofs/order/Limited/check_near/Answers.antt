@@ -8,4 +8,4 @@ use Rattle.table.proofs.order.Limited.check_near.Goals as goal
 pub returns : goal.returns
 returns c =
     let right = c.args.self.now in
-    asked_answer near_at_most near_place_of near_entry near_note (near_wanted c.args.state c.args.least) right.nodes.now c.check.result right.few right.limits c.check.ensures.answer
+    asked_answer near_at_most near_place_of near_entry near_note (near_wanted c.args.near.state c.args.near.least) right.nodes.now c.check.result right.few right.limits c.check.ensures.answer
