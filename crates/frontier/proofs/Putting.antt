@@ -13,22 +13,19 @@ use Rattle.roster.proofs.Updating.{Updated, part_kept_only, holds_kept_only}
 use Rattle.search_model.specs.declared.records.Record.{Record}
 use Rattle.search_model.specs.declared.search.Search.{Search}
 use Rattle.search_model.specs.Choice.{within}
-use Rattle.search_model.specs.Records.{is_open, f, f_hat, blank}
+use Rattle.search_model.specs.Records.{is_open, f, f_hat}
 use Rattle.frontier.specs.declared.frontier.Frontier.{Frontier}
 use Rattle.table.specs.declared.node.Node.{Node}
 use Rattle.frontier.specs.Frontier.{Puttable, PutDone, with_kept, counted_by, near_side_wanted, far_side_wanted, near_side, far_side}
+use Rattle.table.specs.Fresh.{blank_node}
 use Rattle.table.specs.Order.{cost_place, near_place_of}
 use Rattle.table.specs.Seats.{low_entry, with_low_entry, low_note, with_low_note, hope_entry, with_hope_entry, hope_note, with_hope_note, near_entry, with_near_entry, near_note, with_near_note, far_entry, with_far_entry, far_note, with_far_note}
 use Rattle.table.specs.Table.{low_wanted, hope_wanted, near_entry_of}
-use Rattle.frontier.proofs.Requeue.{face, faced, can_update, after_update, at_last, put_records, put_length, put_limits, put_covered, put_side, put_elsewhere}
-
--- A node that no table has, for reads past the last place.
-abbrev pub no_node : Node
-no_node = faced (blank, 0)
+use Rattle.frontier.proofs.Requeue.{face, can_update, after_update, at_last, put_records, put_length, put_limits, put_covered, put_side, put_elsewhere}
 
 -- The node of a place, and the table with its record and side changed.
 abbrev pub node_at : List Node → ℕ → Node
-node_at t place = get_or t place no_node
+node_at t place = get_or t place blank_node
 
 abbrev pub renewed : List Node → ℕ → Record → ℕ → Node
 renewed t place kept side = with_kept (node_at t place) kept side
@@ -61,22 +58,22 @@ FarOnly = QueueOnly far_entry with_far_entry far_note with_far_note
 
 module _ {s : Search} {fr : Frontier} {t : List Node} {place : ℕ} {kept : Record} {side : ℕ} (P : Puttable s fr t place kept side) where
   is_node : node_at t place ≡ get_or t place (node_at t place)
-  is_node = get_or_default t place no_node (node_at t place) P.on
+  is_node = get_or_default t place blank_node (node_at t place) P.on
 
   long₁ : length (written t place kept side) ≡ length t
   long₁ = length-set t place (renewed t place kept side)
 
   low₁ : Holds cost_at_most cost_place low_entry low_note (expected_in low_wanted t) fr.opened (written t place kept side)
-  low₁ = holds_set cost_at_most cost_place low_entry low_note P.prepared.ready.low place no_node (renewed t place kept side) refl refl
+  low₁ = holds_set cost_at_most cost_place low_entry low_note P.prepared.ready.low place blank_node (renewed t place kept side) refl refl
 
   hope₁ : Holds cost_at_most cost_place hope_entry hope_note (expected_in hope_wanted t) fr.opened (written t place kept side)
-  hope₁ = holds_set cost_at_most cost_place hope_entry hope_note P.prepared.ready.hope place no_node (renewed t place kept side) refl refl
+  hope₁ = holds_set cost_at_most cost_place hope_entry hope_note P.prepared.ready.hope place blank_node (renewed t place kept side) refl refl
 
   near₁ : Holds near_at_most near_place_of near_entry near_note (expected_in (near_side_wanted s) t) fr.nears (written t place kept side)
-  near₁ = holds_set near_at_most near_place_of near_entry near_note P.prepared.ready.near place no_node (renewed t place kept side) refl refl
+  near₁ = holds_set near_at_most near_place_of near_entry near_note P.prepared.ready.near place blank_node (renewed t place kept side) refl refl
 
   far₁ : Holds cost_at_most cost_place far_entry far_note (expected_in far_side_wanted t) fr.fars (written t place kept side)
-  far₁ = holds_set cost_at_most cost_place far_entry far_note P.prepared.ready.far place no_node (renewed t place kept side) refl refl
+  far₁ = holds_set cost_at_most cost_place far_entry far_note P.prepared.ready.far place blank_node (renewed t place kept side) refl refl
 
   pub can_low : (was : Bool) (want : Option CostEntry) → was ≡ is_open (node_at t place).kept → want ≡ low_wanted (renewed t place kept side) place
       → Updatable cost_at_most cost_place low_entry low_note 4294967296 fr.opened place was want (written t place kept side)
@@ -182,8 +179,8 @@ module _ {s : Search} {fr : Frontier} {t : List Node} {place : ℕ} {kept : Reco
             };
             there = put_side P (node_at t place) t₅ faces;
             others = put_elsewhere P (node_at t place) t₅ faces;
-            nears = λ d. nears ∙ ap (λ (n : Node). counted_by fr.nears (near_side (renewed t place kept side)) (near_side n)) (get_or_default t place no_node d P.on);
-            fars = λ d. fars ∙ ap (λ (n : Node). counted_by fr.fars (far_side (renewed t place kept side)) (far_side n)) (get_or_default t place no_node d P.on);
+            nears = λ d. nears ∙ ap (λ (n : Node). counted_by fr.nears (near_side (renewed t place kept side)) (near_side n)) (get_or_default t place blank_node d P.on);
+            fars = λ d. fars ∙ ap (λ (n : Node). counted_by fr.fars (far_side (renewed t place kept side)) (far_side n)) (get_or_default t place blank_node d P.on);
           }
 
 -- What a queue counts after an update.

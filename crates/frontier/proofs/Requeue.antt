@@ -21,6 +21,7 @@ use Rattle.search_model.proofs.Table.{changed, changed_keeps}
 use Rattle.frontier.specs.declared.frontier.Frontier.{Frontier}
 use Rattle.table.specs.declared.node.Node.{Node}
 use Rattle.frontier.specs.Frontier.{Puttable, with_kept, far_side}
+use Rattle.table.specs.Fresh.{blank_node}
 use Rattle.table.specs.Table.{records}
 
 -- What expectations read of a node, and a node that has it.
@@ -28,20 +29,16 @@ abbrev pub face : Node → Record × ℕ
 face n = (n.kept, n.side)
 
 abbrev pub faced : Record × ℕ → Node
-faced x =
-    record {
-      kept = x.0;
-      low = record { entry = record { cost = 0; place = 0 }; note = 0 };
-      hope = record { entry = record { cost = 0; place = 0 }; note = 0 };
-      near = record { entry = record { steps = 0; cost = 0; place = 0 }; note = 0 };
-      far = record { entry = record { cost = 0; place = 0 }; note = 0 };
-      side = x.1;
-    }
+faced x = with_kept blank_node x.0 x.1
+
+-- An entry that is wanted of the nodes that pass a test.
+abbrev pub want_if : {E : Type 0} → (Node → Bool) → (Node → ℕ → E) → Node → ℕ → Option E
+want_if test entry n p = cond (test n) (Some (entry n p)) None
 
 -- One queue, which wants an entry of each node that passes the test.
 module _ {E : Type 0} (le : E → E → Bool) (home : E → ℕ) (get : Node → E) (note : Node → ℕ) (test : Node → Bool) (entry : Node → ℕ → E) where
-  abbrev pub wanted : Node → ℕ → Option E
-  wanted n p = cond (test n) (Some (entry n p)) None
+  abbrev wanted : Node → ℕ → Option E
+  wanted = want_if test entry
 
   module _ (t : List Node) (h : ℕ) (old new : Node) (on : h < length t) (is : old ≡ get_or t h old) where
     was_right : (was : Bool) → was ≡ test old → is_some (expected_in wanted t h) ≡ was
