@@ -1,6 +1,6 @@
 -- One more place is put on its side.
 use Rattle.std.proofs.Common.{◌≡◌, ℕ, ◌+◌, ◌<◌, ◌≤◌, Bool, true, false, cond, not, ◌&&◌, if◌then◌else◌, eqb, ltb, List, length, get_or, is_some, Some, None, Option, sym, refl, ap, ◌∙◌, subst, ⊎_elim, arith, length-set, get_or-set_other, get_or-set_same}
-use Rattle.std.proofs.lemmas.Bool.{cases_lt, cases_eq, cond-true, cond-false, lt-ltb, le-ltb, both_ways, and_parts, and_from, and_right, cases_Bool}
+use Rattle.std.proofs.lemmas.Bool.{not-true, cases_lt, cases_eq, cond-true, cond-false, lt-ltb, le-ltb, both_ways, and_parts, and_from, and_right, cases_Bool}
 use Rattle.queue.specs.Keys.{cost_at_most, near_at_most}
 use Rattle.queue.specs.declared.entry.CostEntry.{CostEntry}
 use Rattle.queue.proofs.Parts.{part_set}
@@ -36,10 +36,6 @@ use Rattle.frontier.proofs.Reading.{not_last}
 use Rattle.frontier.proofs.Putting.{node_at, FarOnly, renewed, written}
 use Rattle.frontier.proofs.Requeue.{face, faced}
 use Rattle.frontier.proofs.Trimming.{expected_agree}
-
-not-true : (b : Bool) → not b ≡ true → b ≡ false
-not-true true e = absurd (both_ways false refl e)
-not-true false e = refl
 
 -- the near side is where the test of the near set says
 pub side_near : (s : Search) (least : ℕ) (kept : Record) {near : Bool} {side : Side} {number : ℕ} → near ≡ is_near s least kept → side ≡ (if near then Near else Far) → number ≡ number_of side

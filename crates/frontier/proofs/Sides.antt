@@ -2,7 +2,7 @@
 use Rattle.std.proofs.Common.{◌≡◌, ℕ, zero, suc, ◌*◌, ◌<◌, ◌≤◌, Bool, true, false, not, cond, eqb, leb, List, [], ◌∷◌, get_or, set, Some, None, Option, sym, refl, ap, ◌∙◌, subst, mul-le-mul_left, arith}
 use Rattle.std.specs.Option.{option_map}
 use Rattle.std.proofs.lemmas.Map.Entries.{option_filter}
-use Rattle.std.proofs.lemmas.List.{get_or_default}
+use Rattle.std.proofs.lemmas.List.{get_or_default, set-get_or}
 use Rattle.std.proofs.lemmas.Bool.{and_right, and_parts, lt-leb, leb-false, both_ways}
 use Rattle.queue.specs.Calls.{Head}
 use Rattle.queue.specs.Entries.{entries}
@@ -31,12 +31,6 @@ use Rattle.table.proofs.OrderAsked.{records_at}
 use Rattle.frontier.proofs.Putting.{node_at}
 use Rattle.frontier.proofs.Reading.{node_limits, wants, wanted_here, by_default, cost_before, before_le}
 
--- writing what is there
-set_there : {A : Type 0} (xs : List A) (i : ℕ) (d : A) → set xs i (get_or xs i d) ≡ xs
-set_there [] i d = refl
-set_there (x ∷ xs) zero d = refl
-set_there {A} (x ∷ xs) (suc i) d = ap (λ (zs : List A). x ∷ zs) (set_there xs i d)
-
 -- an open place's entry by f̂
 abbrev hope_made : Node → ℕ → CostEntry
 hope_made n p = record { cost = f_hat n.kept; place = p }
@@ -53,7 +47,7 @@ module _ {s : Search} {fr : Frontier} {t : List Node} {place side : ℕ} (M : Mo
   moved {fr'} {t'} D = record {
     same = record {
       prepared = D.put.prepared;
-      same_records = D.put.records_set ∙ ap (λ (r : Record). set (records t) place r) (sym (records_at t place)) ∙ set_there (records t) place blank;
+      same_records = D.put.records_set ∙ ap (λ (r : Record). set (records t) place r) (sym (records_at t place)) ∙ set-get_or (records t) place blank;
       same_length = D.put.same_length;
       covers = D.put.same_cover;
     };
