@@ -32,7 +32,7 @@ use Rattle.frontier.proofs.Chains.{filter_some, filter_none}
 use Rattle.table.specs.Table.{records, open_entry, low_wanted, hope_wanted, near_entry_of}
 use Rattle.table.specs.Fresh.{blank_node}
 use Rattle.table.proofs.OrderAsked.{records_at, open_some, some_open}
-use Rattle.frontier.proofs.Putting.{node_at}
+use Rattle.frontier.proofs.Nodes.{node_at}
 use Rattle.frontier.proofs.Reading.{wants, wanted_here, cost_before}
 
 -- an open place is on the table

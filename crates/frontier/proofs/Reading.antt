@@ -15,8 +15,7 @@ use Rattle.table.specs.declared.node.Node.{Node}
 use Rattle.table.specs.Fresh.{blank_node}
 use Rattle.table.specs.Table.{records}
 use Rattle.table.proofs.OrderAsked.{records_at, expected_at}
-use Rattle.frontier.proofs.Putting.{node_at}
-use Rattle.frontier.proofs.Requeue.{want_if}
+use Rattle.frontier.proofs.Nodes.{node_at, want_if}
 
 -- the entries of the nodes that pass a test
 module _ {E : Type 0} (test : Node → Bool) (entry : Node → ℕ → E) where

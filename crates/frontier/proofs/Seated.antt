@@ -33,8 +33,8 @@ use Rattle.table.specs.Fresh.{blank_node}
 use Rattle.table.specs.Rebound.{below}
 use Rattle.table.proofs.OrderRebound.{below_here, below_all, below_put}
 use Rattle.frontier.proofs.Reading.{not_last}
-use Rattle.frontier.proofs.Putting.{node_at, FarOnly, renewed, written}
-use Rattle.frontier.proofs.Requeue.{face, faced}
+use Rattle.frontier.proofs.Nodes.{node_at, renewed, written, face, faced}
+use Rattle.frontier.proofs.Putting.{FarOnly}
 use Rattle.frontier.proofs.Trimming.{expected_agree}
 
 -- the near side is where the test of the near set says

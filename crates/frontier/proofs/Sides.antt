@@ -1,5 +1,5 @@
 -- Places that change sides.
-use Rattle.std.proofs.Common.{◌≡◌, ℕ, zero, suc, ◌*◌, ◌<◌, ◌≤◌, Bool, true, false, not, cond, eqb, leb, List, [], ◌∷◌, get_or, set, Some, None, Option, sym, refl, ap, ◌∙◌, subst, mul-le-mul_left, arith}
+use Rattle.std.proofs.Common.{◌≡◌, ℕ, ◌*◌, ◌<◌, ◌≤◌, Bool, true, false, not, cond, eqb, leb, List, get_or, set, Some, None, Option, sym, refl, ap, ◌∙◌, subst, mul-le-mul_left, arith}
 use Rattle.std.specs.Option.{option_map}
 use Rattle.std.proofs.lemmas.Map.Entries.{option_filter}
 use Rattle.std.proofs.lemmas.List.{get_or_default, set-get_or}
@@ -28,7 +28,7 @@ use Rattle.table.specs.Seats.{near_entry, near_note, far_entry, far_note}
 use Rattle.table.specs.Table.{records, near_entry_of}
 use Rattle.table.specs.Fresh.{blank_node}
 use Rattle.table.proofs.OrderAsked.{records_at}
-use Rattle.frontier.proofs.Putting.{node_at}
+use Rattle.frontier.proofs.Nodes.{node_at}
 use Rattle.frontier.proofs.Reading.{node_limits, wants, wanted_here, by_default, cost_before, before_le}
 
 -- an open place's entry by f̂

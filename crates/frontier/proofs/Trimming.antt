@@ -21,7 +21,7 @@ use Rattle.frontier.specs.Frontier.{near_side_wanted, near_side}
 use Rattle.table.specs.Table.{records, near_wanted, near_entry_of, least_hope}
 use Rattle.table.specs.Fresh.{blank_node}
 use Rattle.table.proofs.OrderAsked.{expected_at}
-use Rattle.frontier.proofs.Putting.{node_at}
+use Rattle.frontier.proofs.Nodes.{node_at}
 use Rattle.frontier.proofs.Reading.{node_limits, not_last, by_default}
 use Rattle.frontier.proofs.Sides.{rearranged_self}
 

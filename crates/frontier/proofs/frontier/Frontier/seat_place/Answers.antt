@@ -1,5 +1,5 @@
 use Rattle.table.proofs.OrderRebound.{right_node}
-use Rattle.frontier.proofs.Putting.{node_at}
+use Rattle.frontier.proofs.Nodes.{node_at}
 use Rattle.frontier.proofs.Reading.{node_limits}
 use Rattle.frontier.proofs.Seated.{can_seat, seat_more, side_near}
 use Rattle.frontier.proofs.frontier.Frontier.seat_place.Goals as goal
