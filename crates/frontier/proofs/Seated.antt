@@ -11,8 +11,8 @@ use Rattle.roster.proofs.Changing.{expected_set, expected_kept, if_some}
 use Rattle.roster.proofs.Wishes.{expected_past}
 use Rattle.roster.proofs.Expectations.{put_here, put_other, put_same}
 use Rattle.roster.proofs.Holding.{holds_same, holds_none}
-use Rattle.roster.proofs.Keeping.{holds_set, kept_part}
-use Rattle.roster.proofs.Updating.{Updated, part_kept_only, holds_kept_only}
+use Rattle.roster.proofs.Keeping.{kept_part}
+use Rattle.roster.proofs.Updating.{Updated, part_kept_only}
 use Rattle.search_model.specs.declared.records.Record.{Record}
 use Rattle.search_model.specs.declared.search.Search.{Search}
 use Rattle.search_model.specs.Choice.{is_near, within}
@@ -34,7 +34,8 @@ use Rattle.table.specs.Rebound.{below}
 use Rattle.table.proofs.OrderRebound.{below_here, below_all, below_put}
 use Rattle.frontier.proofs.Reading.{not_last}
 use Rattle.frontier.proofs.Nodes.{node_at, renewed, written, face, faced}
-use Rattle.frontier.proofs.Putting.{FarOnly}
+use Rattle.frontier.proofs.Requeue.{held_written, beside}
+use Rattle.frontier.proofs.Putting.{FarOnly, low_kind, hope_kind, near_kind, far_kind}
 use Rattle.frontier.proofs.Trimming.{expected_agree}
 
 -- the near side is where the test of the near set says
@@ -61,7 +62,7 @@ module _ (u : List Node) (place side : ℕ) (on : place < length u) where
       → Updatable cost_at_most cost_place far_entry far_note 4294967296 fars place false want sat
   can_seat fars want H small same = record {
     expected = below place (expected_in far_side_wanted u);
-    holds = holds_set cost_at_most cost_place far_entry far_note H place blank_node new refl refl;
+    holds = held_written far_kind u place _ side H;
     before = ap is_some absent;
     within = omega (arith, on, length-set u place new);
     noted = omega (arith, small, length-set u place new);
@@ -103,12 +104,12 @@ module _ (u : List Node) (place side : ℕ) (on : place < length u) where
       seat_more least t S = record {
         same_records = kept_same ∙ S.same_records;
         same_length = F.same_length ∙ length-set u place new ∙ S.same_length;
-        low = holds_kept_only F cost_at_most cost_place low_entry low_note (λ r e m. refl) (λ r e m. refl) (holds_set cost_at_most cost_place low_entry low_note S.low place blank_node new refl refl);
-        hope = holds_kept_only F cost_at_most cost_place hope_entry hope_note (λ r e m. refl) (λ r e m. refl) (holds_set cost_at_most cost_place hope_entry hope_note S.hope place blank_node new refl refl);
-        near = holds_kept_only F near_at_most near_place_of near_entry near_note (λ r e m. refl) (λ r e m. refl) (holds_set near_at_most near_place_of near_entry near_note S.near place blank_node new refl refl);
+        low = beside low_kind F (λ r e m. refl) (λ r e m. refl) _ _ (held_written low_kind u place _ side S.low);
+        hope = beside hope_kind F (λ r e m. refl) (λ r e m. refl) _ _ (held_written hope_kind u place _ side S.hope);
+        near = beside (near_kind s) F (λ r e m. refl) (λ r e m. refl) _ _ (held_written (near_kind s) u place _ side S.near);
         far = holds_same cost_at_most cost_place far_entry far_note
             (subst (λ (o : Option CostEntry). Holds cost_at_most cost_place far_entry far_note (put (below place (expected_in far_side_wanted u)) place o) m v) same
-            (U (below place (expected_in far_side_wanted u)) (holds_set cost_at_most cost_place far_entry far_note S.far place blank_node new refl refl) (ap is_some absent)))
+            (U (below place (expected_in far_side_wanted u)) (held_written far_kind u place _ side S.far) (ap is_some absent)))
             far_more;
         seated = λ d p l. subst (Right least) (sym (face_at d p)) (⊎_elim
             (λ (e : p ≡ place). subst (λ (n : Node). Right least (face n)) (sym (ap (λ (a : ℕ). get_or sat a d) e ∙ get_or-set_same u place new d on))
