@@ -10,7 +10,7 @@ use Rattle.roster.specs.Update.{Updatable}
 use Rattle.roster.proofs.Changing.{expected_set, expected_kept, if_some}
 use Rattle.roster.proofs.Wishes.{expected_past}
 use Rattle.roster.proofs.Expectations.{put_here, put_other, put_same}
-use Rattle.roster.proofs.Holding.{holds_same, holds_none}
+use Rattle.roster.proofs.Holding.{holds_same}
 use Rattle.roster.proofs.Keeping.{kept_part}
 use Rattle.roster.proofs.Updating.{Updated, part_kept_only}
 use Rattle.search_model.specs.declared.records.Record.{Record}
@@ -23,7 +23,7 @@ use Rattle.table.specs.declared.node.Node.{Node}
 use Rattle.frontier.specs.Moves.{Rearranged}
 use Rattle.table.specs.Order.{cost_place, near_place_of, InOrder}
 use Rattle.table.specs.Seats.{low_entry, low_note, hope_entry, hope_note, near_entry, near_note, far_entry, far_note}
-use Rattle.frontier.specs.Starting.{Seatable, Seating, FarBelow}
+use Rattle.frontier.specs.Starting.{Seating, FarBelow}
 use Rattle.frontier.specs.Sides.{number_of}
 use Rattle.frontier.specs.declared.side.Side.{Side}
 use Rattle.frontier.specs.declared.side.Side.TheVariants.{Near, Far}
@@ -118,28 +118,6 @@ module _ (u : List Node) (place side : ℕ) (on : place < length u) where
             (cases_eq p place));
         covers = S.covers;
       }
-
--- Before the first place.
-pub seat_none : {s : Search} {opened nears : ℕ} {t : List Node} (least : ℕ) → least ≡ least_hope (records t) → InOrder s opened nears t
-    → Seating s least t (record { opened = opened; nears = nears; fars = 0; cover = least }) 0 t
-seat_none {s} {opened} {nears} {t} least is I = record {
-  same_records = refl;
-  same_length = refl;
-  low = I.low;
-  hope = I.hope;
-  near = subst (λ (k : ℕ). Holds near_at_most near_place_of near_entry near_note (expected_in (near_wanted s k) t) nears t) (sym is) I.near;
-  far = holds_none cost_at_most cost_place far_entry far_note t (λ h. cond-false (ltb h 0) _ _ (le-ltb h 0 (omega arith)));
-  seated = λ d p l. absurd (omega arith);
-  covers = refl;
-}
-
-pub can_seat_next : {s : Search} {least opened nears place : ℕ} {fr : Frontier} {t u : List Node} → InOrder s opened nears t → length t ≤ 4096 → place < length t → Seating s least t fr place u → Seatable u place fr.fars
-can_seat_next {place = place} {t = t} {u = u} I small on S = record {
-  far = S.far;
-  on = omega (arith, on, S.same_length);
-  small = omega (arith, small, S.same_length);
-  limits = subst (λ (rs : List Record). RecordLimits (at rs place)) (sym S.same_records) (I.limits place);
-}
 
 -- After the last place.
 pub seat_all : {s : Search} {opened nears n : ℕ} {fr : Frontier} {t u : List Node} (least : ℕ) → least ≡ least_hope (records t) → InOrder s opened nears t → length t ≤ 4096 → length t ≤ n → Seating s least t fr n u

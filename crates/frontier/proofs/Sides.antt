@@ -3,7 +3,7 @@ use Rattle.std.proofs.Common.{◌≡◌, ℕ, ◌*◌, ◌<◌, ◌≤◌, Bool,
 use Rattle.std.specs.Option.{option_map}
 use Rattle.std.proofs.lemmas.Map.Entries.{option_filter}
 use Rattle.std.proofs.lemmas.List.{get_or_default, set-get_or}
-use Rattle.std.proofs.lemmas.Bool.{and_right, and_parts, lt-leb, leb-false, both_ways}
+use Rattle.std.proofs.lemmas.Bool.{and_right, lt-leb, leb-false}
 use Rattle.queue.specs.Calls.{Head}
 use Rattle.queue.specs.Entries.{entries}
 use Rattle.queue.specs.Keys.{cost_at_most, near_at_most}
@@ -16,13 +16,12 @@ use Rattle.roster.proofs.Holding.{holds_head}
 use Rattle.search_model.specs.declared.records.Record.{Record}
 use Rattle.search_model.specs.declared.search.Search.{Search}
 use Rattle.search_model.specs.Choice.{within}
-use Rattle.search_model.specs.Expansion.{closed}
-use Rattle.search_model.specs.Fields.{RecordLimits, SeenLimits}
-use Rattle.search_model.specs.Records.{blank, at, is_open, f_hat}
+use Rattle.search_model.specs.Fields.{RecordLimits}
+use Rattle.search_model.specs.Records.{blank, is_open, f_hat}
 use Rattle.frontier.specs.declared.frontier.Frontier.{Frontier}
 use Rattle.table.specs.declared.node.Node.{Node}
-use Rattle.frontier.specs.Frontier.{Prepared, Puttable, AllBeyond, RecordPut, PutDone, counted_by, far_side_wanted, near_side_wanted, near_side, far_side}
-use Rattle.frontier.specs.Moves.{Labelled, Closing, Movable, Moved, Rearranged, OnSide, FarWithin, NearBeyond, sided}
+use Rattle.frontier.specs.Frontier.{Prepared, Puttable, AllBeyond, PutDone, counted_by, far_side_wanted, near_side_wanted, near_side, far_side}
+use Rattle.frontier.specs.Moves.{Movable, Moved, OnSide, FarWithin, NearBeyond, sided}
 use Rattle.table.specs.Order.{cost_place, near_place_of}
 use Rattle.table.specs.Seats.{near_entry, near_note, far_entry, far_note}
 use Rattle.table.specs.Table.{records, near_entry_of}
@@ -57,35 +56,6 @@ module _ {s : Search} {fr : Frontier} {t : List Node} {place side : ℕ} (M : Mo
     fars = λ d. by_default (λ (n : Node). fr'.fars ≡ counted_by fr.fars (far_side (sided n side)) (far_side n)) t place M.on (D.fars blank_node) d;
   }
 
--- A place that is given a label, or closed.
-module _ {s : Search} {fr : Frontier} {t : List Node} {place : ℕ} where
-  pub can_label : {kept : Record} (side : ℕ) → Labelled s fr t place kept → (not (eqb side 1) ≡ true → within s fr.cover kept ≡ false) → Puttable s fr t place kept side
-  can_label {kept} side L out = record {
-    prepared = L.prepared;
-    on = L.on;
-    limits = L.limits;
-    beyond = λ d far. out (and_parts (is_open kept) (not (eqb side 1)) far).1;
-  }
-
-  pub can_close : Closing s fr t place → Puttable s fr t place (closed (node_at t place).kept) 0
-  can_close C = record {
-    prepared = C.prepared;
-    on = C.on;
-    limits = record { mark = omega arith; seen = λ _. limits };
-    beyond = λ d far. absurd (both_ways false refl far);
-  }
-    where
-      was : RecordLimits (node_at t place).kept
-      was = node_limits t place (C.prepared.ready.limits place)
-
-      limits : SeenLimits (closed (node_at t place).kept)
-      limits =
-          let S = was.seen (subst (λ (r : Record). 1 ≤ r.mark) (records_at t place) C.seen) in
-          record { label = S.label; low = S.low; hope = S.hope; steps = S.steps }
-
-  pub put_closed : {fr' : Frontier} {t' : List Node} → RecordPut s fr t place (closed (node_at t place).kept) fr' t' → RecordPut s fr t place (closed (at (records t) place)) fr' t'
-  put_closed {fr'} {t'} D = subst (λ (r : Record). RecordPut s fr t place (closed r) fr' t') (sym (records_at t place)) D
-
 -- The numbers fall.
 fewer : (n m : ℕ) (comes goes : Bool) → m ≡ counted_by n comes goes → comes ≡ false → goes ≡ true → 0 < n → m < n
 fewer n m comes goes is c g used =
@@ -97,38 +67,6 @@ module _ {s : Search} {fr fr' : Frontier} {t t' : List Node} {place : ℕ} where
 
   pub fewer_near : Moved s fr t place 0 fr' t' → OnSide near_side t fr.nears place → fr'.nears < fr.nears
   fewer_near M O = fewer fr.nears fr'.nears _ _ (M.nears blank_node) (and_right (is_open (node_at t place).kept) (eqb 0 1) refl) (O.there blank_node) O.used
-
--- Tables with the same records.
-pub rearranged_self : {s : Search} {fr : Frontier} {t : List Node} → Prepared s fr t → Rearranged s t fr.cover fr t
-rearranged_self P = record { prepared = P; same_records = refl; same_length = refl; covers = refl }
-
--- A frontier with another cover.
-abbrev pub covering : Frontier → ℕ → Frontier
-covering fr cover = record { opened = fr.opened; nears = fr.nears; fars = fr.fars; cover = cover }
-
-pub recovered : {s : Search} {fr : Frontier} {t : List Node} {cover : ℕ} → Prepared s fr t → AllBeyond s t cover → Prepared s (covering fr cover) t
-recovered P out = record {
-  ready = record {
-    limits = P.ready.limits;
-    low = P.ready.low;
-    hope = P.ready.hope;
-    near = P.ready.near;
-    far = P.ready.far;
-    covered = out;
-  };
-  small = P.small;
-}
-
-pub rearranged_covering : {s : Search} {t t' : List Node} {fr' : Frontier} {was cover : ℕ} → Rearranged s t was fr' t' → AllBeyond s t' cover → Rearranged s t cover (covering fr' cover) t'
-rearranged_covering A out = record { prepared = recovered A.prepared out; same_records = A.same_records; same_length = A.same_length; covers = refl }
-
--- beyond a cover is beyond every lower one
-pub beyond_lower : (s : Search) (t : List Node) (cover least : ℕ) → least ≤ cover → AllBeyond s t cover → AllBeyond s t least
-beyond_lower s t cover least le out d p l far =
-    let x = s.bound.b * f_hat (get_or t p d).kept in
-    let over : s.bound.a * cover < x = leb-false x (s.bound.a * cover) (out d p l far) in
-    let less : s.bound.a * least ≤ s.bound.a * cover = mul-le-mul_left s.bound.a le in
-    lt-leb x (s.bound.a * least) (omega arith)
 
 -- What the head of the far queue says.
 module _ {s : Search} {fr : Frontier} {t : List Node} (P : Prepared s fr t) (cover : ℕ) where
