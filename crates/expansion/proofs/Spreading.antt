@@ -4,6 +4,7 @@ use Rattle.std.proofs.lemmas.List.{length-map}
 use Rattle.floors.specs.declared.leg.Leg.{Leg}
 use Rattle.floors.specs.Guided.{Guided, SoundGuided}
 use Rattle.floors.specs.Meaning.{Meaning}
+use Rattle.floors.specs.Sound.{limit}
 use Rattle.search_model.specs.declared.records.Record.{Record}
 use Rattle.search_model.specs.declared.search.Search.{Search}
 use Rattle.search_model.specs.Expansion.{offer, along, spread, closed}
@@ -41,6 +42,9 @@ module _ {m : Meaning} {s : Search} {fr : Frontier} {t : List Node} {n : ℕ} (E
   -- the label as it is read
   read_label : (node_at t n).kept.label ≡ (at (records t) n).label
   read_label = ap (λ (r : Record). r.label) (sym (records_at t n))
+
+  pub label_limit : (node_at t n).kept.label ≤ limit
+  label_limit = subst (λ (x : ℕ). x ≤ limit) (sym read_label) ((E.prepared.ready.limits n).seen E.seen).label
 
   -- the place's record once it is closed
   own : {fr₁ : Frontier} {t₁ : List Node} → RecordPut s fr t n (closed (at (records t) n)) fr₁ t₁ → at (records t₁) n ≡ closed (at (records t) n)

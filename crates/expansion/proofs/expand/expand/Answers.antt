@@ -1,8 +1,14 @@
-use Rattle.std.proofs.Common.{sym}
+use Rattle.std.proofs.Common.{sym, arith}
 use Rattle.floors.specs.Guided.{guided_sound}
-use Rattle.expansion.proofs.Spreading.{spread_offered, spread_barred}
+use Rattle.expansion.proofs.Spreading.{label_limit, spread_offered, spread_barred}
 use Rattle.expansion.proofs.expand.expand.Goals as goal
 use Rattle.expansion.proofs.expand.expand.Goals.{in-Some, in_default}
+
+pub overflow_add-offered : goal.overflow_add-offered
+overflow_add-offered g c =
+    let limits = (g.F.Floor.sound c.args.floor.now).limits in
+    let cost = limits.costs c.args.place c.loop-number.number c.in-Some.leg (sym c.in-Some.ensures) in
+    omega (arith, label_limit c.requires)
 
 pub loop-number-preserved : goal.loop-number-preserved
 loop-number-preserved g c =
