@@ -1,12 +1,14 @@
 -- The entry in slot 0 of a heap is at most every entry.
-use Rattle.std.proofs.Common.{◌≡◌, ℕ, zero, suc, ◌<◌, ◌≤◌, Bool, true, List, map, length, get_or, ◌∙◌, subst, ⊎_elim, arith, length-take, get_or-take}
-use Rattle.std.specs.List.{ContainsAt as Has}
+use Rattle.std.proofs.Common.{◌≡◌, ℕ, zero, suc, ◌<◌, ◌≤◌, Bool, true, List, map, length, take, get_or, Some, None, Option, sym, ap, ◌∙◌, subst, ⊎_elim, arith, length-take, get_or-take}
+use Rattle.std.specs.List.{HoldsAt, ContainsAt as Has}
+use Rattle.std.specs.Option.{MatchOption, IsSomeAnd}
+use denote.Ref.{Bor}
 use Rattle.std.proofs.lemmas.Bool.{cases_eq}
-use Rattle.queue.specs.Calls.{HeadEntry}
+use Rattle.queue.specs.Calls.{Head, HeadEntry}
 use Rattle.queue.specs.Entries.{entries, entry_at}
 use Rattle.queue.specs.Heap.{Heap, parent_slot}
 use Rattle.queue.specs.Order.{Ordered}
-use Rattle.std.proofs.lemmas.List.{length-map}
+use Rattle.std.proofs.lemmas.List.{get_or-map, length-map}
 use Rattle.queue.proofs.Holes.{at_most_self}
 
 -- entries as a function of the slot: by steps up to the root
@@ -32,6 +34,17 @@ module _ {R E : Type 0} (get : R → E) (le : E → E → Bool) (ord : Ordered l
         stands = stands;
         least = λ H d i l. subst (λ (x : E). le x (get_or (entries get n xs) i d) ≡ true) (stands d) (heap_least le ord (entries get n xs) H d i (omega arith));
       }
+
+  -- what a chain reads of the first record, if there is one
+  pub head_read : (n : ℕ) (xs : List R) (o : Option (Bor R)) (r : Option E) (P : Bor R → E → Type 0) → n ≤ length xs
+      → MatchOption o (length (take n xs) ≤ 0) (λ x. (0 < length (take n xs)) × HoldsAt (λ y. x.now ≡ y) (take n xs) 0)
+      → MatchOption o (r ≡ None) (λ x. IsSomeAnd r (P x)) → ((x : Bor R) (e : E) → P x e → e ≡ get x.now)
+      → Head le n (entries get n xs) r
+  head_read n xs None r P ln none is read = rw is (omega (arith, none, length-take n xs))
+  head_read n xs (Some x) None P ln some is read = elim is [ ]
+  head_read n xs (Some x) (Some e) P ln some is read =
+      let used : 0 < n = omega (arith, some.0, length-take n xs) in
+      head_of n xs e used ln (λ d. get_or-map get xs 0 x.now d (omega arith) ∙ ap get (sym (get_or-take n xs 0 x.now used) ∙ sym (some.1 x.now)) ∙ sym (read x e is))
 
 -- the head of a queue that holds exactly a set is the least of the set
 pub head_of_set : {E : Type 0} (le : E → E → Bool) (n : ℕ) (es : List E) (e : E) (P : E → Type 0) → length es ≡ n → Heap le es → HeadEntry le n es e

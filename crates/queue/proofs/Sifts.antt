@@ -1,5 +1,5 @@
 -- The steps of the two sifting loops.
-use Rattle.std.proofs.Common.{◌≡◌, ℕ, ◌/◌, ◌<◌, ◌≤◌, Bool, true, false, ◌≢◌, ◌⊎◌, List, length, get_or, set, sym, refl, ap, ◌∙◌, subst, ⊎_elim, arith}
+use Rattle.std.proofs.Common.{◌≡◌, ℕ, ◌<◌, ◌≤◌, Bool, false, ◌≢◌, List, length, get_or, set, sym, refl, ap, ◌∙◌, subst, arith}
 use Rattle.queue.specs.Entries.{entry_at}
 use Rattle.queue.specs.Heap.{parent_slot}
 use Rattle.queue.specs.Hole.{Holed, LeastChild}
@@ -7,8 +7,8 @@ use Rattle.queue.specs.Lens.{Lens}
 use Rattle.queue.specs.Order.{Ordered}
 use Rattle.queue.specs.Path.{OnPath}
 use Rattle.queue.specs.Path.OnPath.{here, above}
-use Rattle.queue.specs.Sift.{HoleMoved, Rising, Risen, Sinking, Sunk}
-use Rattle.queue.proofs.Holes.{Written, same_order, at_most_self, other_way, holed_up, below_up, holed_down, above_down}
+use Rattle.queue.specs.Sift.{HoleMoved, Rising, Sinking}
+use Rattle.queue.proofs.Holes.{Written, other_way, holed_up, below_up, holed_down, above_down}
 use Rattle.queue.proofs.Paths.{on_path_le, on_path_trans, on_path_up}
 use Rattle.queue.proofs.Writes.{written_at, sum_written, frame_none, frame_write}
 
@@ -104,35 +104,3 @@ module _ {R E : Type 0} (le : E → E → Bool) (ord : Ordered le) (get : R → 
             above_down le (entry_at get ys d) (entry_at get (set ys h r') d) n h e c m.child.1
             (written_at get ys h r' (entry_at get ys d c) d lh (got ∙ sym (par d))) (other_way le ord e (entry_at get ys d c) (turned d));
       }
-
-  -- at the root there is nothing above
-  pub risen_root : (xs ys : List R) (k h : ℕ) (e : E) → Rising le get put xs k e ys h → h ≤ 0 → Risen le get put xs k e ys h
-  risen_root xs ys k h e I z = record { rising = I; above = λ d zh. absurd (omega arith) }
-
-  -- the parent's entry is at most e
-  pub risen_fits : (xs ys : List R) (k h p : ℕ) (e : E) → Rising le get put xs k e ys h → p ≡ parent_slot h → ((d : E) → le (entry_at get ys d p) e ≡ true) → Risen le get put xs k e ys h
-  risen_fits xs ys k h p e I up small = record { rising = I; above = λ d z. subst (λ (q : ℕ). le (entry_at get ys d q) e ≡ true) up (small d) }
-
-  -- a slot without children has nothing below
-  pub sunk_leaf : (n : ℕ) (xs ys : List R) (k h : ℕ) (e : E) → Sinking le get put n xs k e ys h → n / 2 ≤ h → Sunk le get put n xs k e ys h
-  sunk_leaf n xs ys k h e I leaf = record { sinking = I; below = λ d i zi li eq. absurd (omega arith) }
-
-  -- e is at most the least child's entry
-  pub sunk_fits : (n : ℕ) (xs ys : List R) (k h c : ℕ) (e : E) → Sinking le get put n xs k e ys h → LeastChild le (entry_at get ys) n h c → ((d : E) → le e (entry_at get ys d c) ≡ true) → Sunk le get put n xs k e ys h
-  sunk_fits n xs ys k h c e I m small = record {
-    sinking = I;
-    below = λ d i zi li eq. ord.trans e (entry_at get ys d c) (entry_at get ys d i) (small d) (m.least d i zi li eq);
-  }
-
-  -- of the two child slots of h, c holds an entry that is at most the one in o
-  pub least_of : (ys : List R) (n h c o : ℕ)
-      → ((d : E) → le (entry_at get ys d c) (entry_at get ys d o) ≡ true) → c < n → (0 < c) × (parent_slot c ≡ h)
-      → ((i : ℕ) → 0 < i → parent_slot i ≡ h → (i ≡ c) ⊎ (i ≡ o)) → LeastChild le (entry_at get ys) n h c
-  least_of ys n h c o small lc child two = record {
-    used = lc;
-    child = child;
-    least = λ d i zi li e. ⊎_elim
-        (λ eq. rw eq (at_most_self le ord (entry_at get ys d c)))
-        (λ eq. same_order le refl (ap (entry_at get ys d) eq) (small d))
-        (two i zi e);
-  }

@@ -1,7 +1,7 @@
 -- One write to one slot: what is read after it, what it keeps, and what it does to sums.
 use Rattle.std.proofs.Common.{◌≡◌, ℕ, ◌+◌, ◌<◌, ◌≤◌, List, map, length, get_or, take, set, sum_by, sym, refl, ap, ◌∙◌, subst, ⊎_elim, arith, length-set, length-take, get_or-set_other, get_or-take, get_or-set_same}
 use lib.Seq.{take-set-lt, map-set}
-use Rattle.std.proofs.lemmas.List.{get_or-map, get_or_default, length-map}
+use Rattle.std.proofs.lemmas.List.{get_or_default, length-map}
 use Rattle.std.proofs.lemmas.List.Sums.{sum_by-set}
 use Rattle.std.proofs.lemmas.Bool.{cases_eq}
 use Rattle.queue.specs.Entries.{entries, entry_at}
@@ -11,10 +11,6 @@ use Rattle.queue.specs.Path.{OnPath}
 use Rattle.queue.proofs.Holes.{Written}
 
 module _ {R E : Type 0} (get : R → E) where
-  -- an entry that was read from a record
-  pub read_at : (xs : List R) (i : ℕ) (r : R) (x d : E) → i < length xs → x ≡ get (get_or xs i r) → entry_at get xs d i ≡ x
-  read_at xs i r x d l e = get_or-map get xs i r d l ∙ sym e
-
   pub written_at : (xs : List R) (h : ℕ) (r : R) (x d : E) → h < length xs → get r ≡ x → Written (entry_at get xs d) (entry_at get (set xs h r) d) h x
   written_at xs h r x d l e = record {
     there =

@@ -4,7 +4,7 @@ ghost use Rattle.std.proofs.Common.{rules};
 use crate::order::Ranked;
 
 // A place with a cost, ordered by cost, then by place.
-#[derive(Clone, Copy)]
+#[derive(Clone, Copy, PartialEq, Eq, PartialOrd, Ord)]
 pub struct CostEntry {
     pub cost: u32,
     pub place: u32,
@@ -16,16 +16,12 @@ impl Ranked for CostEntry {
     ghost ordered = { Prim.search rules };
 
     fn at_most(&self, other: &CostEntry) -> bool {
-        if self.cost == other.cost {
-            self.place <= other.place
-        } else {
-            self.cost < other.cost
-        }
+        self <= other
     }
 }
 
 // A place with steps and a cost, ordered by steps, then by cost, then by place.
-#[derive(Clone, Copy)]
+#[derive(Clone, Copy, PartialEq, Eq, PartialOrd, Ord)]
 pub struct NearEntry {
     pub steps: u32,
     pub cost: u32,
@@ -38,9 +34,6 @@ impl Ranked for NearEntry {
     ghost ordered = { record { total = λ x y. Prim.search rules; antisym = λ x y. Prim.search rules; trans = λ x y z. Prim.search rules } };
 
     fn at_most(&self, other: &NearEntry) -> bool {
-        self.steps < other.steps
-            || (self.steps == other.steps
-                && (self.cost < other.cost
-                    || (self.cost == other.cost && self.place <= other.place)))
+        self <= other
     }
 }

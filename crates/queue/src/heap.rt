@@ -1,5 +1,5 @@
 ghost use Rattle.std.specs.Prelude.{◌≡◌, ℕ, ◌+◌, ◌-◌, ◌*◌, ◌/◌, ◌<◌, ◌≤◌, length};
-ghost use Rattle.queue.specs.Calls.{Head, HeadEntry, Inserted, RemovedAt, ReplacedAt};
+ghost use Rattle.queue.specs.Calls.{Head, Inserted, RemovedAt, ReplacedAt};
 ghost use Rattle.queue.specs.Entries.{entries, entry_at};
 ghost use Rattle.queue.specs.Frame.{Frame, SameFrom};
 ghost use Rattle.queue.specs.Heap.{parent_slot};
@@ -14,11 +14,7 @@ pub fn head<Q, R: Slot<Q>>(slots: &[R], n: usize) -> Option<R::Entry>
     requires { n ≤ length slots.now }
     ensures { Head R.Entry.Ranked.at_most n (entries R.entry_of n slots.now) result }
 {
-    if n == 0 {
-        None
-    } else {
-        Some(first_entry::<Q, R>(slots, n))
-    }
+    slots[..n].first().map(|slot| slot.entry())
 }
 
 // Inserts e into a queue of n, and returns the deepest slot that changed.
@@ -33,19 +29,25 @@ pub fn insert<Q, R: Slot<Q>>(slots: &mut [R], n: usize, e: R::Entry) -> usize
 
 // Removes the entry in slot i of a queue of n, and returns the deepest slot that changed, or 0 where i was the last slot and nothing moved.
 pub fn remove_at<Q, R: Slot<Q>>(slots: &mut [R], n: usize, i: usize) -> usize
-    requires { (n ≤ length slots.old) × (i < n) }
+    requires queue { n ≤ length slots.old }
+    requires slot { i < n }
     ensures queue { RemovedAt R.Entry.Ranked.at_most i (entries R.entry_of n slots.old) (entries R.entry_of (n - 1) slots.new) }
     ensures frame { Frame R.entry_of R.with_entry result slots.old slots.new }
     ensures deepest { result ≤ n - 2 }
     ensures beyond { SameFrom (n - 1) slots.old slots.new }
 {
     let last = slot_entry::<Q, R>(slots, n - 1);
-    close_gap::<Q, R>(slots, n, i, last)
+    if i < n - 1 {
+        settle::<Q, R>(slots, n - 1, i, last)
+    } else {
+        0
+    }
 }
 
 // Replaces the entry in slot i of a queue of n by e, and returns the deepest slot that changed.
 pub fn replace_at<Q, R: Slot<Q>>(slots: &mut [R], n: usize, i: usize, e: R::Entry) -> usize
-    requires { (n ≤ length slots.old) × (i < n) }
+    requires queue { n ≤ length slots.old }
+    requires slot { i < n }
     ensures queue { ReplacedAt R.Entry.Ranked.at_most i e (entries R.entry_of n slots.old) (entries R.entry_of n slots.new) }
     ensures frame { Frame R.entry_of R.with_entry result slots.old slots.new }
     ensures deepest { result < n }
@@ -61,36 +63,15 @@ pub(crate) fn slot_entry<Q, R: Slot<Q>>(slots: &[R], i: usize) -> R::Entry
     slots[i].entry()
 }
 
-// The entry in slot 0, which is the head of a queue of n that is not empty.
-fn first_entry<Q, R: Slot<Q>>(slots: &[R], n: usize) -> R::Entry
-    requires { (0 < n) × (n ≤ length slots.now) }
-    ensures { HeadEntry R.Entry.Ranked.at_most n (entries R.entry_of n slots.now) result }
-{
-    slot_entry::<Q, R>(slots, 0)
-}
-
-// Puts `last`, the last entry of a queue of n, in the place of the entry in slot i.
-fn close_gap<Q, R: Slot<Q>>(slots: &mut [R], n: usize, i: usize, last: R::Entry) -> usize
-    requires { (n ≤ length slots.old) × (i < n) }
-    ensures queue { ((d : _) → entry_at R.entry_of slots.old d (n - 1) ≡ last) → RemovedAt R.Entry.Ranked.at_most i (entries R.entry_of n slots.old) (entries R.entry_of (n - 1) slots.new) }
-    ensures frame { Frame R.entry_of R.with_entry result slots.old slots.new }
-    ensures deepest { result ≤ n - 2 }
-    ensures beyond { SameFrom (n - 1) slots.old slots.new }
-{
-    if i < n - 1 {
-        settle::<Q, R>(slots, n - 1, i, last)
-    } else {
-        0
-    }
-}
-
 // Writes e where it fits among the first n slots, with the hole in slot i, and returns the deepest slot that changed.
 fn settle<Q, R: Slot<Q>>(slots: &mut [R], n: usize, i: usize, e: R::Entry) -> usize
-    requires { (n ≤ length slots.old) × (i < n) }
+    requires queue { n ≤ length slots.old }
+    requires slot { i < n }
     ensures inserted { n ≡ i + 1 → Inserted R.Entry.Ranked.at_most e (entries R.entry_of i slots.old) (entries R.entry_of n slots.new) }
     ensures replaced { ReplacedAt R.Entry.Ranked.at_most i e (entries R.entry_of n slots.old) (entries R.entry_of n slots.new) }
     ensures frame { Frame R.entry_of R.with_entry result slots.old slots.new }
-    ensures deepest { (i ≤ result) × (result < n) }
+    ensures low { i ≤ result }
+    ensures deepest { result < n }
 {
     let top = sift_up::<Q, R>(slots, i, e);
     if top < i {
@@ -155,18 +136,14 @@ fn sift_up<Q, R: Slot<Q>>(slots: &mut [R], from: usize, e: R::Entry) -> usize
 
 // The child slot of the hole whose entry is least.
 fn least_child<Q, R: Slot<Q>>(slots: &[R], n: usize, hole: usize) -> usize
-    requires { (n ≤ length slots.now) × (hole < n / 2) }
+    requires queue { n ≤ length slots.now }
+    requires inner { hole < n / 2 }
     ensures { LeastChild R.Entry.Ranked.at_most (entry_at R.entry_of slots.now) n hole result }
 {
     let left = left_child(hole, n);
     let right = left + 1;
-    if right < n {
-        let second = slot_entry::<Q, R>(slots, right);
-        if fits_above::<Q, R>(slots, left, second) {
-            left
-        } else {
-            right
-        }
+    if right < n && !fits_above::<Q, R>(slots, left, slot_entry::<Q, R>(slots, right)) {
+        right
     } else {
         left
     }
@@ -174,7 +151,8 @@ fn least_child<Q, R: Slot<Q>>(slots: &[R], n: usize, hole: usize) -> usize
 
 // Moves the hole down while a child slot's entry is below e, and returns where it ended.
 fn sift_down<Q, R: Slot<Q>>(slots: &mut [R], n: usize, from: usize, e: R::Entry) -> usize
-    requires { (n ≤ length slots.old) × (from < n) }
+    requires queue { n ≤ length slots.old }
+    requires slot { from < n }
     ensures { Sunk R.Entry.Ranked.at_most R.entry_of R.with_entry n slots.old from e slots.new result }
 {
     let mut hole = from;

@@ -37,9 +37,11 @@ pub trait Homed<Q>: Slot<Q> {
 
 // Inserts e into a queue of n whose notes are right, and returns the deepest slot that changed. The home of e has no entry in the queue.
 pub fn insert<Q, R: Homed<Q>>(slots: &mut [R], n: usize, e: R::Entry) -> usize
-    requires room { (n < length slots.old) × (length slots.old ≤ R.note_limit) }
+    requires room { n < length slots.old }
+    requires limit { length slots.old ≤ R.note_limit }
     requires notes { NotesRight R.home_of R.Slot.entry_of R.note_of n slots.old }
-    requires home { (R.home_of e < length slots.old) × (Absent R.home_of R.Slot.entry_of n slots.old (R.home_of e)) }
+    requires home { R.home_of e < length slots.old }
+    requires absent { Absent R.home_of R.Slot.entry_of n slots.old (R.home_of e) }
     ensures queue { Inserted R.Entry.Ranked.at_most e (entries R.Slot.entry_of n slots.old) (entries R.Slot.entry_of (n + 1) slots.new) }
     ensures notes { NotesRight R.home_of R.Slot.entry_of R.note_of (n + 1) slots.new }
     ensures frame { IndexedFrame R.home_of R.Slot.entry_of R.Slot.with_entry R.note_of R.with_note result slots.old slots.new }
@@ -52,30 +54,37 @@ pub fn insert<Q, R: Homed<Q>>(slots: &mut [R], n: usize, e: R::Entry) -> usize
 
 // Removes the entry of a home from a queue of n whose notes are right, and returns the deepest slot that changed.
 pub fn remove<Q, R: Homed<Q>>(slots: &mut [R], n: usize, home: usize) -> usize
-    requires room { (n ≤ length slots.old) × (length slots.old ≤ R.note_limit) }
+    requires queue { n ≤ length slots.old }
+    requires limit { length slots.old ≤ R.note_limit }
     requires notes { NotesRight R.home_of R.Slot.entry_of R.note_of n slots.old }
-    requires home { Present R.home_of R.Slot.entry_of R.note_of n slots.old home }
+    requires present { Present R.home_of R.Slot.entry_of R.note_of n slots.old home }
     ensures queue { (r : _) → RemovedAt R.Entry.Ranked.at_most (R.note_of (slice_index_or slots.old home r)) (entries R.Slot.entry_of n slots.old) (entries R.Slot.entry_of (n - 1) slots.new) }
     ensures notes { NotesRight R.home_of R.Slot.entry_of R.note_of (n - 1) slots.new }
     ensures frame { IndexedFrame R.home_of R.Slot.entry_of R.Slot.with_entry R.note_of R.with_note result slots.old slots.new }
     ensures deepest { result ≤ n - 2 }
 {
     let slot = slot_of::<Q, R>(slots, home);
-    remove_noted::<Q, R>(slots, n, home, slot)
+    let deepest = heap::remove_at::<Q, R>(slots, n, slot);
+    write_notes::<Q, R>(slots, deepest);
+    deepest
 }
 
 // Replaces the entry of a home by another of the same home in a queue of n whose notes are right, and returns the deepest slot that changed.
 pub fn replace<Q, R: Homed<Q>>(slots: &mut [R], n: usize, home: usize, e: R::Entry) -> usize
-    requires room { (n ≤ length slots.old) × (length slots.old ≤ R.note_limit) }
+    requires queue { n ≤ length slots.old }
+    requires limit { length slots.old ≤ R.note_limit }
     requires notes { NotesRight R.home_of R.Slot.entry_of R.note_of n slots.old }
-    requires home { (Present R.home_of R.Slot.entry_of R.note_of n slots.old home) × (R.home_of e ≡ home) }
+    requires present { Present R.home_of R.Slot.entry_of R.note_of n slots.old home }
+    requires home { R.home_of e ≡ home }
     ensures queue { (r : _) → ReplacedAt R.Entry.Ranked.at_most (R.note_of (slice_index_or slots.old home r)) e (entries R.Slot.entry_of n slots.old) (entries R.Slot.entry_of n slots.new) }
     ensures notes { NotesRight R.home_of R.Slot.entry_of R.note_of n slots.new }
     ensures frame { IndexedFrame R.home_of R.Slot.entry_of R.Slot.with_entry R.note_of R.with_note result slots.old slots.new }
     ensures deepest { result < n }
 {
     let slot = slot_of::<Q, R>(slots, home);
-    replace_noted::<Q, R>(slots, n, home, slot, e)
+    let deepest = heap::replace_at::<Q, R>(slots, n, slot, e);
+    write_notes::<Q, R>(slots, deepest);
+    deepest
 }
 
 // The slot that the home notes.
@@ -86,45 +95,11 @@ pub fn slot_of<Q, R: Homed<Q>>(slots: &[R], home: usize) -> usize
     slots[home].note()
 }
 
-// Removes the entry in the slot that the home notes, and writes the notes of the entries that moved.
-fn remove_noted<Q, R: Homed<Q>>(slots: &mut [R], n: usize, home: usize, slot: usize) -> usize
-    requires room { (n ≤ length slots.old) × (length slots.old ≤ R.note_limit) }
-    requires notes { NotesRight R.home_of R.Slot.entry_of R.note_of n slots.old }
-    requires home { (Present R.home_of R.Slot.entry_of R.note_of n slots.old home) × (((r : _) → R.note_of (slice_index_or slots.old home r) ≡ slot)) }
-    ensures queue { (r : _) → RemovedAt R.Entry.Ranked.at_most (R.note_of (slice_index_or slots.old home r)) (entries R.Slot.entry_of n slots.old) (entries R.Slot.entry_of (n - 1) slots.new) }
-    ensures notes { NotesRight R.home_of R.Slot.entry_of R.note_of (n - 1) slots.new }
-    ensures frame { IndexedFrame R.home_of R.Slot.entry_of R.Slot.with_entry R.note_of R.with_note result slots.old slots.new }
-    ensures deepest { result ≤ n - 2 }
-{
-    let deepest = heap::remove_at::<Q, R>(slots, n, slot);
-    write_notes::<Q, R>(slots, deepest);
-    deepest
-}
-
-// Replaces the entry in the slot that the home notes, and writes the notes of the entries that moved.
-fn replace_noted<Q, R: Homed<Q>>(
-    slots: &mut [R],
-    n: usize,
-    home: usize,
-    slot: usize,
-    e: R::Entry,
-) -> usize
-    requires room { (n ≤ length slots.old) × (length slots.old ≤ R.note_limit) }
-    requires notes { NotesRight R.home_of R.Slot.entry_of R.note_of n slots.old }
-    requires home { (Present R.home_of R.Slot.entry_of R.note_of n slots.old home) × ((((r : _) → R.note_of (slice_index_or slots.old home r) ≡ slot)) × (R.home_of e ≡ home)) }
-    ensures queue { (r : _) → ReplacedAt R.Entry.Ranked.at_most (R.note_of (slice_index_or slots.old home r)) e (entries R.Slot.entry_of n slots.old) (entries R.Slot.entry_of n slots.new) }
-    ensures notes { NotesRight R.home_of R.Slot.entry_of R.note_of n slots.new }
-    ensures frame { IndexedFrame R.home_of R.Slot.entry_of R.Slot.with_entry R.note_of R.with_note result slots.old slots.new }
-    ensures deepest { result < n }
-{
-    let deepest = heap::replace_at::<Q, R>(slots, n, slot, e);
-    write_notes::<Q, R>(slots, deepest);
-    deepest
-}
-
 // Writes the note of the entry in the slot.
 fn write_note<Q, R: Homed<Q>>(slots: &mut [R], slot: usize)
-    requires { (slot < length slots.old) × ((slot < R.note_limit) × (((d : _) → R.home_of (entry_at R.Slot.entry_of slots.old d slot) < length slots.old))) }
+    requires slot { slot < length slots.old }
+    requires limit { slot < R.note_limit }
+    requires home { (d : _) → R.home_of (entry_at R.Slot.entry_of slots.old d slot) < length slots.old }
     ensures { NoteWritten R.home_of R.Slot.entry_of R.note_of R.with_note slot slots.old slots.new }
 {
     let e = heap::slot_entry::<Q, R>(slots, slot);
@@ -134,7 +109,9 @@ fn write_note<Q, R: Homed<Q>>(slots: &mut [R], slot: usize)
 
 // Writes the notes of the entries on the path of the slot `deepest`.
 fn write_notes<Q, R: Homed<Q>>(slots: &mut [R], deepest: usize)
-    requires { (deepest < length slots.old) × ((deepest < R.note_limit) × (((d : _) (i : ℕ) → i ≤ deepest → R.home_of (entry_at R.Slot.entry_of slots.old d i) < length slots.old))) }
+    requires slot { deepest < length slots.old }
+    requires limit { deepest < R.note_limit }
+    requires homes { (d : _) (i : ℕ) → i ≤ deepest → R.home_of (entry_at R.Slot.entry_of slots.old d i) < length slots.old }
     ensures { Noted R.home_of R.Slot.entry_of R.note_of R.with_note (λ _. ⊥) deepest slots.old slots.new }
 {
     let mut slot = deepest;

@@ -2,12 +2,21 @@
 use Rattle.std.proofs.Common.{◌≡◌, ℕ, zero, suc, ◌<◌, ◌≤◌, Bool, true, false, cond, eqb, List, [], ◌∷◌, map, length, get_or, Some, None, Option, sym, refl, ap, ◌∙◌, subst, ⊎_elim, arith, length-take, get_or-take}
 use Rattle.std.proofs.lemmas.List.{get_or-map, get_or_default, length-map}
 use Rattle.std.proofs.lemmas.Bool.{cases_eq, cases_lt, cases_Bool, and_parts, and_from, and_left, and_right, or_cases, or_left, or_right, eqb-true, eq-eqb, ltb-true, lt-ltb, both_ways, cond-true, cond-false}
+use Rattle.std.specs.Bool.{MatchBool, then_some}
+use Rattle.std.specs.Fn.{Called}
+use Rattle.std.specs.Iterator.{ChecksAll}
+use Rattle.std.specs.List.{range_with_len, AllWithin, HoldsAt}
+use Rattle.std.specs.declared.ops.Range.{Range}
+use Rattle.std.proofs.iter.Yields.{nat_range_steps}
+use Rattle.std.proofs.lemmas.Iterator.{YieldsList-from_range, cases_from_all}
+use denote.Param.Members.{Mut}
+use Rattle.std.proofs.lemmas.List.FromFn.{length-range_with_len, get_or-range_with_len}
 use Rattle.queue.specs.Entries.{entries, entry_at}
 use Rattle.queue.specs.Heap.{Heap, parent_slot}
 use Rattle.queue.specs.Order.{Ordered}
 use Rattle.queue.proofs.Holes.{at_most_self}
 use Rattle.roster.specs.Holds.{Holds, expected_count}
-use Rattle.roster.specs.Check.{every, expects, entry_right, slot_right, names_home, home_right, all_right, roster_right, Decided, IsFailing}
+use Rattle.roster.specs.Check.{every, expects, entry_right, slot_right, names_home, home_right, all_right, roster_right, Decided, Tested}
 use Rattle.roster.proofs.Counting.{expected_count_le, holds_count}
 use Rattle.roster.proofs.Expectations.{none_some}
 use Rattle.roster.proofs.Holding.{holds_none}
@@ -26,6 +35,21 @@ each_every p (suc n) all = and_from (every p n) (p n) (each_every p n (λ i l. a
 -- a number that fails
 one_fails : (p : ℕ → Bool) (n i : ℕ) → i < n → p i ≡ false → every p n ≡ false
 one_fails p n i l f = ⊎_elim (λ t. absurd (both_ways (p i) f (every_each p n t i l))) (λ e. e) (cases_Bool (every p n))
+
+-- what a chain that tests each number below n answers
+pub tested_ran : {R F : Type 0} {g : Mut F (ℕ × Unit {0}) Bool} {s : Range ℕ} (u : Range ℕ) (f : F) (passes : R → ℕ → Bool) (n : ℕ) (r : Bool)
+    → ChecksAll nat_range_steps g s f r u → s ≡ record { start = 0; end = n } → ((k : ℕ) (b : Bool) (q : F) → Called g f (k, tt) b q → (q ≡ f) × ((d : R) → passes d k ≡ b)) → Tested passes n r
+tested_ran {R} u f passes n r ran is each = go r (cases_from_all u f r (λ k. (d : R) → passes d k ≡ true) (λ k. (d : R) → passes d k ≡ false) ran
+    (YieldsList-from_range 0 n n is (omega arith)) (λ k q c. each k true q c) (λ k q c. (each k false q c).1))
+  where
+    go : (o : Bool) → MatchBool o (AllWithin (λ k. (d : R) → passes d k ≡ true) (range_with_len 0 n) 0 (length (range_with_len 0 n))) ((k : ℕ) × (k < length (range_with_len 0 n)) × HoldsAt (λ k. (d : R) → passes d k ≡ false) (range_with_len 0 n) k) → Tested passes n o
+    go true all = λ k l d.
+        let e : get_or (range_with_len 0 n) k 0 ≡ k = omega (arith, get_or-range_with_len 0 n k 0 l) in
+        subst (λ (i : ℕ). passes d i ≡ true) e (all k 0 (omega arith) (omega (arith, length-range_with_len 0 n)) d)
+    go false (k, l, fails) =
+        let lk : k < n = omega (arith, length-range_with_len 0 n) in
+        let e : get_or (range_with_len 0 n) k 0 ≡ k = omega (arith, get_or-range_with_len 0 n k 0 lk) in
+        (k, lk, λ d. subst (λ (i : ℕ). passes d i ≡ false) e (fails 0 d))
 
 module _ {R E : Type 0} (le : E → E → Bool) (home : E → ℕ) (get : R → E) (note : R → ℕ) (ord : Ordered le) (x : ℕ → Option E) where
   expects_some : (o : Option E) (e : E) → expects le o e ≡ true → o ≡ Some e
@@ -162,21 +186,21 @@ module _ {R E : Type 0} (le : E → E → Bool) (home : E → ℕ) (get : R → 
     refused : roster_right le home get note x xs ≡ false → Answered None
     refused f = (sym (cond-false _ _ _ f), λ m H. both_ways _ f (holds_roster m xs H))
 
-    pub slot_refused : (i : ℕ) → IsFailing (λ d. slot_right le home get note x d xs) n (Some i) → Answered None
-    slot_refused i (l, fails) = refused (go xs counted l fails)
+    slot_refused : Tested (λ d. slot_right le home get note x d xs) n false → Answered None
+    slot_refused (i, l, fails) = refused (go xs counted l fails)
       where
         go : (ys : List R) → n ≡ expected_count x (length ys) → i < n → ((d : R) → slot_right le home get note x d ys i ≡ false) → roster_right le home get note x ys ≡ false
         go [] is l f = absurd (omega (arith, is))
         go (d ∷ rest) is l f = and_left _ _ (one_fails _ _ i (subst (λ (m : ℕ). i < m) is l) (f d))
 
-    pub home_refused : (h : ℕ) → IsFailing (λ d. home_right home get note x n d xs) (length xs) (Some h) → Answered None
-    home_refused h (l, fails) = refused (go xs counted l fails)
+    home_refused : Tested (λ d. home_right home get note x n d xs) (length xs) false → Answered None
+    home_refused (h, l, fails) = refused (go xs counted l fails)
       where
         go : (ys : List R) → n ≡ expected_count x (length ys) → h < length ys → ((d : R) → home_right home get note x n d ys h ≡ false) → roster_right le home get note x ys ≡ false
         go [] is l f = absurd (omega arith)
         go (d ∷ rest) is l f = and_right _ _ (one_fails _ _ h l (subst (λ (m : ℕ). home_right home get note x m d (d ∷ rest) h ≡ false) is (f d)))
 
-    pub accepted : IsFailing (λ d. slot_right le home get note x d xs) n None → IsFailing (λ d. home_right home get note x n d xs) (length xs) None → Answered (Some n)
+    accepted : Tested (λ d. slot_right le home get note x d xs) n true → Tested (λ d. home_right home get note x n d xs) (length xs) true → Answered (Some n)
     accepted slots homes = (
       ap Some counted ∙ sym (cond-true _ _ _ right),
       subst (λ (m : ℕ). Holds le home get note x m xs) (sym counted) (roster_holds xs past right),
@@ -190,3 +214,13 @@ module _ {R E : Type 0} (le : E → E → Bool) (home : E → ℕ) (get : R → 
 
         right : roster_right le home get note x xs ≡ true
         right = go xs counted slots homes
+
+    pub slots_answered : (b : Bool) (o : Option ℕ) → Tested (λ d. slot_right le home get note x d xs) n false → b ≡ false → o ≡ then_some b n → Answered o
+    slots_answered b o slots is e = rw (e, is) (slot_refused slots)
+
+    pub homes_answered : (b h : Bool) (o : Option ℕ) → Tested (λ d. slot_right le home get note x d xs) n true → Tested (λ d. home_right home get note x n d xs) (length xs) h → b ≡ h → o ≡ then_some b n → Answered o
+    homes_answered b h o slots homes is e = rw (e, is) (go h homes)
+      where
+        go : (h : Bool) → Tested (λ d. home_right home get note x n d xs) (length xs) h → Answered (then_some h n)
+        go false homes = home_refused homes
+        go true homes = accepted slots homes

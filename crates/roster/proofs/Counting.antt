@@ -1,7 +1,8 @@
 -- A queue that holds its expectations has as many entries as homes are expected.
-use Rattle.std.proofs.Common.{◌≡◌, ℕ, zero, suc, ◌+◌, ◌<◌, ◌≤◌, Bool, true, eqb, ltb, List, [], ◌∷◌, map, length, get_or, is_some, Some, None, count_by, Option, sym, refl, ap, ◌∙◌, ⊎_elim, add-one, arith, length-take}
+use Rattle.std.proofs.Common.{◌≡◌, ℕ, zero, suc, ◌+◌, ◌<◌, ◌≤◌, Bool, true, eqb, ltb, List, [], ◌∷◌, map, length, get_or, is_some, Some, None, count_by, Option, sym, refl, ap, ◌∙◌, ⊎_elim, arith, length-take}
 use Rattle.std.proofs.lemmas.List.{length-map}
 use Rattle.std.proofs.lemmas.Bool.{cases_eq, cases_lt, lt-ltb, le-ltb, eq-eqb, ne_eqb, leb-false}
+use Rattle.std.specs.List.{range_with_len}
 use Rattle.queue.specs.Entries.{entries}
 use Rattle.queue.proofs.Homes.{named, homes_noted}
 use Rattle.queue.proofs.Members.{tally, tally_true, tally_false, count_cons, count_one}
@@ -38,9 +39,22 @@ module _ {E : Type 0} (home : E → ℕ) where
   count_below_zero [] = refl
   count_below_zero (y ∷ ys) = omega (arith, count_cons (below 0) y ys, tally_false _ (le-ltb (home y) 0 (omega arith)), count_below_zero ys)
 
--- one more home
-pub expected_count_more : {E : Type 0} (x : ℕ → Option E) (m n : ℕ) (o : Option E) (b : Bool) → n ≡ expected_count x m → o ≡ x m → b ≡ is_some o → expected_count x (m + 1) ≡ n + tally b
-expected_count_more x m n o b counted is some = rw add-one (ap (λ (k : ℕ). k + tally (is_some (x m))) (sym counted) ∙ ap (λ (c : Bool). n + tally c) (sym (some ∙ ap is_some is)))
+-- the count over the list of the homes
+counted_from : {E : Type 0} (x : ℕ → Option E) (a n : ℕ) → expected_count x a + count_by (λ h. is_some (x h)) (range_with_len a n) ≡ expected_count x (a + n)
+counted_from x a zero = let e : a + 0 ≡ a = omega arith in omega (arith, ap (expected_count x) e)
+counted_from x a (suc n) =
+    let e : a + suc n ≡ suc a + n = omega arith in
+    let s : a + 1 ≡ suc a = omega arith in
+    omega (
+      arith,
+      ap (expected_count x) e,
+      ap (λ (b : ℕ). count_by (λ h. is_some (x h)) (range_with_len b n)) s,
+      count_cons (λ h. is_some (x h)) a (range_with_len (a + 1) n),
+      counted_from x (suc a) n,
+    )
+
+pub expected_counted : {E : Type 0} (x : ℕ → Option E) (n : ℕ) → count_by (λ h. is_some (x h)) (range_with_len 0 n) ≡ expected_count x n
+expected_counted x n = let e : 0 + n ≡ n = omega arith in omega (arith, counted_from x 0 n, ap (expected_count x) e)
 
 -- homes that are not expected make the count smaller
 pub expected_count_le : {E : Type 0} (x : ℕ → Option E) (m : ℕ) → expected_count x m ≤ m
@@ -94,9 +108,6 @@ module _ {R E : Type 0} (le : E → E → Bool) (home : E → ℕ) (get : R → 
         count_all (below home (length xs)) (entries get n xs)
             (λ d i l. lt-ltb _ _ (omega (arith, leb-false _ _ ((homes_noted home get note n xs H.rule.filled H.notes).within d i l)))),
       )
-
-  pub holds_filled : n ≤ length xs
-  holds_filled = H.rule.filled
 
   -- a record that is not expected leaves room
   pub holds_room : (h : ℕ) → h < length xs → x h ≡ None → n < length xs

@@ -1,17 +1,15 @@
 -- The calls that an update makes: what they require, and what they come to.
-use Rattle.std.proofs.Common.{◌≡◌, ℕ, ◌+◌, ◌-◌, ◌<◌, Bool, true, false, cond, List, map, length, get_or, is_some as option_is_some, Some, None, Option, sym, refl, ap, ◌∙◌, subst, ⊎_elim, arith}
+use Rattle.std.proofs.Common.{◌≡◌, ℕ, ◌+◌, ◌-◌, ◌<◌, Bool, true, false, List, map, length, get_or, is_some as option_is_some, Some, None, Option, sym, refl, ap, ◌∙◌, subst}
 use Rattle.std.proofs.lemmas.Bool.{both_ways}
 use Rattle.queue.specs.Calls.{Inserted, RemovedAt, ReplacedAt}
 use Rattle.queue.specs.Entries.{entries}
-use Rattle.queue.specs.Lens.{Lens}
-use Rattle.queue.specs.Notes.{NotesRight, Absent, Present, IndexedFrame}
+use Rattle.queue.specs.Notes.{NotesRight, IndexedFrame}
 use Rattle.queue.specs.Order.{Ordered}
 use Rattle.queue.proofs.Parts.{same_parts}
 use Rattle.roster.specs.Holds.{Holds, put}
-use Rattle.roster.specs.Update.{Updatable, QueueOnly, updated_count}
+use Rattle.roster.specs.Update.{Updatable, QueueOnly}
 use Rattle.roster.proofs.Counting.{holds_room}
-use Rattle.roster.proofs.Expectations.{put_cases}
-use Rattle.roster.proofs.Holding.{holds_absent, holds_same, holds_used, holds_inserted, holds_removed, holds_replaced}
+use Rattle.roster.proofs.Holding.{holds_used, holds_inserted, holds_removed, holds_replaced}
 use Rattle.roster.proofs.Keeping.{holds_kept}
 
 module _ {E : Type 0} where
@@ -23,25 +21,12 @@ module _ {E : Type 0} where
   is_some None e = absurd (both_ways false refl e)
   is_some (Some x) e = (x, refl)
 
--- nothing is expected before and after
-put_none : {E : Type 0} (x : ℕ → Option E) (h : ℕ) (o : Option E) → x h ≡ o → (k : ℕ) → x k ≡ put x h o k
-put_none x h o is k = ⊎_elim (λ here. ap x here.0 ∙ is ∙ sym here.1) (λ other. sym other.1) (put_cases x h o k)
-
 module _ {R E : Type 0} (le : E → E → Bool) (home : E → ℕ) (get : R → E) (note : R → ℕ) {limit n h : ℕ} {was : Bool} {wanted : Option E} {xs : List R} (U : Updatable le home get note limit n h was wanted xs) where
   absent_before : was ≡ false → U.expected h ≡ None
   absent_before off = is_none (U.expected h) (U.before ∙ off)
 
-  pub update_absent : (e : E) → wanted ≡ Some e → was ≡ false → Absent home get n xs (home e)
-  update_absent e is off = subst (Absent home get n xs) (sym (U.names e is)) (holds_absent le home get note U.holds h (absent_before off))
-
   pub update_room : was ≡ false → n < length xs
   update_room off = holds_room le home get note U.holds h U.within (absent_before off)
-
-  pub update_home : (e : E) → wanted ≡ Some e → home e < length xs
-  update_home e is = omega (arith, U.names e is, U.within)
-
-  pub update_present : was ≡ true → Present home get note n xs h
-  update_present on = let p = is_some (U.expected h) (U.before ∙ on) in U.holds.all h p.0 p.1
 
   pub update_used : was ≡ true → 0 < n
   update_used on = let p = is_some (U.expected h) (U.before ∙ on) in holds_used le home get note U.holds h p.0 p.1
@@ -76,28 +61,6 @@ module _ {R E : Type 0} (le : E → E → Bool) (ord : Ordered le) (home : E →
       let old = is_some (x h) (before ∙ on) in
       let P : Option E → Type 0 = λ o. Holds le home get note (put x h o) n ys in
       subst P (sym is) (holds_replaced le home get note ord H h old.0 e old.1 at I N F)
-
-module _ {R E : Type 0} (le : E → E → Bool) (home : E → ℕ) (get : R → E) (note : R → ℕ) (n h : ℕ) (was : Bool) (wanted : Option E) (xs : List R) where
-  pub updated_nothing : wanted ≡ None → was ≡ false → Updated le home get note n h was wanted xs n xs
-  updated_nothing is off x H before = holds_same le home get note H (put_none x h wanted (is_none (x h) (before ∙ off) ∙ sym is))
-
--- the frame of an indexed call, without its path
-pub frame_only : {R E : Type 0} {home : E → ℕ} {get : R → E} {with_entry : R → E → R} {note : R → ℕ} {with_note : R → ℕ → R} {k : ℕ} {xs ys : List R}
-    → IndexedFrame home get with_entry note with_note k xs ys → QueueOnly get with_entry note with_note xs ys
-frame_only F = record { same_length = F.same_length; only_queue = F.only_queue }
-
--- nothing is written
-pub frame_same : {R E : Type 0} (get : R → E) (with_entry : R → E → R) (note : R → ℕ) (with_note : R → ℕ → R) → Lens get with_entry → Lens note with_note
-    → (xs : List R) → QueueOnly get with_entry note with_note xs xs
-frame_same get with_entry note with_note L M xs = record {
-  same_length = refl;
-  only_queue = λ r a. sym (ap (λ (z : _). with_note z (note (get_or xs a r))) (L.get_put (get_or xs a r)) ∙ M.get_put (get_or xs a r));
-}
-
--- the number of entries
-pub updated_count_is : {E : Type 0} (n m : ℕ) (was b c : Bool) (wanted o : Option E) → wanted ≡ o → was ≡ b → option_is_some o ≡ c → m ≡ (n + cond c 1 0) - cond b 1 0
-    → m ≡ updated_count n was wanted
-updated_count_is n m was b c wanted o is was-is some e = e ∙ ap (λ (z : Bool). (n + cond z 1 0) - cond b 1 0) (sym (ap option_is_some is ∙ some)) ∙ ap (λ (z : Bool). (n + cond (option_is_some wanted) 1 0) - cond z 1 0) (sym was-is)
 
 -- What an update keeps of every part that is not the queue's.
 module _ {R E : Type 0} {get : R → E} {with_entry : R → E → R} {note : R → ℕ} {with_note : R → ℕ → R} {xs ys : List R} (F : QueueOnly get with_entry note with_note xs ys) where

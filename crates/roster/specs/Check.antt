@@ -63,3 +63,8 @@ Decided at_most Home_of entry_of note_of expected slots None = (n : ℕ) → Hol
 abbrev pub IsFailing : {R : Type 0} → (R → ℕ → Bool) → ℕ → Option ℕ → Type 0
 IsFailing {R} passes n None = (k : ℕ) → k < n → (d : R) → passes d k ≡ true
 IsFailing {R} passes n (Some i) = (i < n) × ((d : R) → passes d i ≡ false)
+
+-- What a test of the numbers below n says: all pass, or one fails, whatever stands past the last slot.
+abbrev pub Tested : {R : Type 0} → (R → ℕ → Bool) → ℕ → Bool → Type 0
+Tested {R} passes n true = (k : ℕ) → k < n → (d : R) → passes d k ≡ true
+Tested {R} passes n false = (k : ℕ) × (k < n) × ((d : R) → passes d k ≡ false)

@@ -21,23 +21,19 @@ pub fn update<Q, R: Homed<Q>>(
     ensures count { result ≡ updated_count n was wanted }
     ensures frame { QueueOnly R.Slot.entry_of R.Slot.with_entry R.Homed.note_of R.Homed.with_note slots.old slots.new }
 {
-    match wanted {
-        Some(e) => {
-            if was {
-                indexed::replace::<Q, R>(slots, n, home, e);
-                n
-            } else {
-                indexed::insert::<Q, R>(slots, n, e);
-                n + 1
-            }
+    match (wanted, was) {
+        (Some(e), true) => {
+            indexed::replace::<Q, R>(slots, n, home, e);
+            n
         }
-        None => {
-            if was {
-                indexed::remove::<Q, R>(slots, n, home);
-                n - 1
-            } else {
-                n
-            }
+        (Some(e), false) => {
+            indexed::insert::<Q, R>(slots, n, e);
+            n + 1
         }
+        (None, true) => {
+            indexed::remove::<Q, R>(slots, n, home);
+            n - 1
+        }
+        (None, false) => n,
     }
 }

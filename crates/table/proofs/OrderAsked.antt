@@ -10,12 +10,12 @@ use Rattle.roster.proofs.Expectations.{none_some, some_same}
 use Rattle.roster.specs.Check.{expected_in}
 use Rattle.roster.specs.Holds.{expected_count}
 use Rattle.search_model.specs.declared.records.Record.{Record}
-use Rattle.search_model.specs.Records.{at, blank, is_open, f, f_hat, Open}
+use Rattle.search_model.specs.Records.{at, blank, is_open, Open}
 use Rattle.table.specs.declared.node.Node.{Node}
 use Rattle.table.specs.Asked.{askable, asked, right_at, records_right, when}
 use Rattle.table.specs.Fresh.{blank_node}
 use Rattle.table.specs.Order.{record_right}
-use Rattle.table.specs.Table.{records, open_entry, low_wanted, hope_wanted}
+use Rattle.table.specs.Table.{records, open_entry}
 
 -- the record of a node
 abbrev pub kept_of : Node → Record
@@ -64,21 +64,6 @@ pub some_when : {A : Type 0} (b : Bool) (x : A) → is_some (when b x) ≡ b
 some_when true x = refl
 some_when false x = refl
 
-pub when_none : {A : Type 0} (b : Bool) (x : A) → None ≡ when b x → b ≡ false
-when_none true x e = absurd (none_some None x refl e)
-when_none false x e = refl
-
-pub when_some : {A : Type 0} (b : Bool) (x y : A) → Some y ≡ when b x → (b ≡ true) × (y ≡ x)
-when_some true x y e = (refl, some_same (Some y) y x refl e)
-when_some false x y e = absurd (none_some (Some y) y e refl)
-
--- another value under the same test
-pub when_some_by : {A B : Type 0} (g : A → B) (b : Bool) (x y : A) → Some y ≡ when b x → Some (g y) ≡ when b (g x)
-when_some_by g b x y e = let p = when_some b x y e in ap (λ (z : _). Some (g z)) p.1 ∙ sym (cond-true _ _ _ p.0)
-
-pub when_none_by : {A B : Type 0} (b : Bool) (x : A) (y : B) → None ≡ when b x → None ≡ when b y
-when_none_by b x y e = sym (cond-false _ _ _ (when_none b x e))
-
 module _ (key : Record → ℕ) (t : List Node) (h : ℕ) where
   pub expected_open : expected_in (open_entry key) t h ≡ open_of key (at (records t) h) h
   expected_open = expected_by (open_of key) t h refl
@@ -97,9 +82,9 @@ module _ (key : Record → ℕ) (t : List Node) (h : ℕ) where
   is_expected : is_some (expected_in (open_entry key) t h) ≡ is_open (at (records t) h)
   is_expected = ap is_some expected_open ∙ some_when (is_open (at (records t) h)) _
 
--- the low and the hope queue want the same places
-pub counts_same : (t : List Node) (m : ℕ) → expected_count (expected_in low_wanted t) m ≡ expected_count (expected_in hope_wanted t) m
-counts_same t zero = refl
-counts_same t (suc m) =
-    ap (λ (n : ℕ). n + cond (is_some (expected_in low_wanted t m)) 1 0) (counts_same t m)
-    ∙ ap (λ (b : Bool). expected_count (expected_in hope_wanted t) m + cond b 1 0) (is_expected f t m ∙ sym (is_expected f_hat t m))
+-- queues of every open place want the same places, by any key
+pub counts_same : (key other : Record → ℕ) (t : List Node) (m : ℕ) → expected_count (expected_in (open_entry key) t) m ≡ expected_count (expected_in (open_entry other) t) m
+counts_same key other t zero = refl
+counts_same key other t (suc m) =
+    ap (λ (n : ℕ). n + cond (is_some (expected_in (open_entry key) t m)) 1 0) (counts_same key other t m)
+    ∙ ap (λ (b : Bool). expected_count (expected_in (open_entry other) t) m + cond b 1 0) (is_expected key t m ∙ sym (is_expected other t m))

@@ -21,7 +21,7 @@ at_most_before x y t = ⊎_elim
     (or_cases _ _ t)
 
 -- the cost of an entry, and 0 of none
-abbrev cost_or_0 : Option CostEntry → ℕ
+abbrev pub cost_or_0 : Option CostEntry → ℕ
 cost_or_0 None = 0
 cost_or_0 (Some e) = e.cost
 

@@ -4,7 +4,7 @@ use Rattle.std.proofs.lemmas.Bool.{and_parts, and_from, or_cases, or_left, or_ri
 use Rattle.floors.specs.Sound.{limit}
 use Rattle.search_model.specs.declared.records.Record.{Record}
 use Rattle.search_model.specs.Fields.{RecordLimits, SeenLimits}
-use Rattle.search_model.specs.Records.{blank, is_open, is_unseen}
+use Rattle.search_model.specs.Records.{blank, is_unseen}
 use Rattle.table.specs.Order.{record_right}
 
 -- the fields of a seen place
@@ -35,10 +35,6 @@ module _ (r : Record) where
       (λ z. or_left (is_unseen r) _ (eq-eqb r.mark 0 z))
       (λ nz. or_right (is_unseen r) _ (seen_limits (l.seen (omega arith))))
       (cases_eq r.mark 0))
-
-  -- of an open place
-  pub open_limits : record_right r ≡ true → is_open r ≡ true → SeenLimits r
-  open_limits t o = (right_limits t).seen (omega (arith, eqb-true r.mark 1 o))
 
 pub blank_limits : RecordLimits blank
 blank_limits = record { mark = omega arith; seen = λ m. absurd (omega arith) }

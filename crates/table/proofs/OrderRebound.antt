@@ -6,12 +6,12 @@ use Rattle.queue.proofs.Parts.{part_kept_indexed}
 use Rattle.queue.specs.Calls.{Inserted}
 use Rattle.queue.specs.Entries.{entries}
 use Rattle.queue.specs.Keys.{cost_at_most, near_at_most}
-use Rattle.queue.specs.Notes.{Absent, IndexedFrame, NotesRight}
+use Rattle.queue.specs.Notes.{IndexedFrame, NotesRight}
 use Rattle.queue.specs.declared.entry.NearEntry.{NearEntry}
 use Rattle.roster.proofs.Wishes.{expected_past}
 use Rattle.roster.proofs.Expectations.{put_cases}
 use Rattle.roster.proofs.Counting.{holds_room}
-use Rattle.roster.proofs.Holding.{holds_none, holds_same, holds_absent, holds_inserted}
+use Rattle.roster.proofs.Holding.{holds_same, holds_inserted}
 use Rattle.roster.proofs.Keeping.{holds_kept}
 use Rattle.roster.specs.Check.{expected_in}
 use Rattle.roster.specs.Holds.{Holds, put}
@@ -81,24 +81,14 @@ pub right_node : (t : List Node) (p : ℕ) → RecordLimits (at (records t) p) �
 right_node t p l = subst (λ (r : Record). record_right r ≡ true) (records_at t p) (limits_right (at (records t) p) l)
 
 module _ (s : Search) (least : ℕ) where
-  -- the near queue of none
-  pub near_start : (t : List Node) → NearBelow s least t 0 0 t
-  near_start t = holds_none near_at_most near_place_of near_entry near_note t (λ h. refl_none h)
-    where
-      refl_none : (h : ℕ) → below 0 (expected_in (near_wanted s least) t) h ≡ None
-      refl_none h = below_out (expected_in (near_wanted s least) t) 0 h (omega arith)
-
   -- a place that is not near
   pub near_skipped : (t : List Node) (i n : ℕ) → i < length t → is_near s least (get_or t i blank_node).kept ≡ false → NearBelow s least t i n t → NearBelow s least t (i + 1) n t
   near_skipped t i n l far H = holds_same near_at_most near_place_of near_entry near_note H
       (below_skip (expected_in (near_wanted s least) t) i (expected_at (near_wanted s least) t i l ∙ cond-false _ _ _ far))
 
-  -- the next place is not in the queue, which has room for it
+  -- the queue has room for the next place
   pub near_room : (t : List Node) (i n : ℕ) → i < length t → NearBelow s least t i n t → n < length t
   near_room t i n l H = holds_room near_at_most near_place_of near_entry near_note H i l (below_here (expected_in (near_wanted s least) t) i)
-
-  pub near_absent : (t : List Node) (i n : ℕ) → NearBelow s least t i n t → Absent near_place_of near_entry n t i
-  near_absent t i n H = holds_absent near_at_most near_place_of near_entry near_note H i (below_here (expected_in (near_wanted s least) t) i)
 
   -- a place that is inserted
   pub near_added : (t t' : List Node) (i n k : ℕ) (e : NearEntry) → i < length t → is_near s least (get_or t i blank_node).kept ≡ true → NearBelow s least t i n t
@@ -125,9 +115,6 @@ near_only t t' k F = record {
   hope_entries = part_kept_indexed hope_entry near_place_of near_entry with_near_entry near_note with_near_note k t t' F (λ r e. refl) (λ r m. refl);
   hope_notes = part_kept_indexed hope_note near_place_of near_entry with_near_entry near_note with_near_note k t t' F (λ r e. refl) (λ r m. refl);
 }
-
-pub only_self : (t : List Node) → NearOnly t t
-only_self t = record { kept = refl; low_entries = refl; low_notes = refl; hope_entries = refl; hope_notes = refl }
 
 pub only_then : (t t' t'' : List Node) → NearOnly t t' → NearOnly t' t'' → NearOnly t t''
 only_then t t' t'' a b = record {

@@ -12,27 +12,12 @@ use crate::wanted::{by_hope, by_low, by_rank};
 use queue::entry::{CostEntry, NearEntry};
 use search_model::records::Record;
 
-// A seat of a queue of costs that holds nothing.
-fn blank_seat() -> Seat<CostEntry>
-    ensures { result ≡ blank_node.low }
+// A seat with an entry that stands for none.
+fn blank_seat<E>(entry: E) -> Seat<E>
+    ensures entry { result.entry ≡ entry }
+    ensures note { result.note ≡ 0 }
 {
-    let entry = CostEntry { cost: 0, place: 0 };
     Seat { entry, note: 0 }
-}
-
-// The record of a place that is unseen.
-fn blank_record() -> Record
-    ensures { result ≡ blank_record }
-{
-    Record {
-        mark: 0,
-        label: 0,
-        parent: 0,
-        leg: 0,
-        low: 0,
-        hope: 0,
-        steps: 0,
-    }
 }
 
 impl Node {
@@ -40,19 +25,18 @@ impl Node {
     pub fn blank() -> Node
         ensures { result ≡ blank_node }
     {
+        let cost = blank_seat(CostEntry { cost: 0, place: 0 });
+        let near = blank_seat(NearEntry {
+            steps: 0,
+            cost: 0,
+            place: 0,
+        });
         Node {
-            kept: blank_record(),
-            low: blank_seat(),
-            hope: blank_seat(),
-            near: Seat {
-                entry: NearEntry {
-                    steps: 0,
-                    cost: 0,
-                    place: 0,
-                },
-                note: 0,
-            },
-            far: blank_seat(),
+            kept: Record::default(),
+            low: cost,
+            hope: cost,
+            near,
+            far: cost,
             side: 0,
         }
     }

@@ -17,5 +17,6 @@ pub struct Node {
     pub hope: Seat<CostEntry>,
     pub near: Seat<NearEntry>,
     pub far: Seat<CostEntry>,
+    // Stays: the table is lent, and may come with any number here.
     pub side: u32,
 }

@@ -1,18 +1,19 @@
 // The check of a table.
 ghost use Rattle.std.specs.Prelude.{◌≡◌, ◌≤◌, true, length, is_some};
+ghost use Rattle.std.specs.List.{list_all};
 ghost use Rattle.queue.specs.Keys.{cost_at_most};
-ghost use Rattle.roster.specs.Check.{IsFailing, expected_in};
+ghost use Rattle.roster.specs.Check.{expected_in};
 ghost use Rattle.roster.specs.Holds.{Holds};
-ghost use Rattle.table.specs.Asked.{right_at, records_right, low_right, hope_right, near_right, queues_right, open_count, near_count, counted, queued, when, HopeHeld, DecidedOrder};
+ghost use Rattle.table.specs.Asked.{records_right, open_right, near_right, queues_right, open_count, near_count, counted, when, OpenHeld, DecidedOrder};
 ghost use Rattle.table.specs.Law.{OrderLaw};
-ghost use Rattle.table.specs.Order.{cost_place, in_order};
+ghost use Rattle.table.specs.Order.{cost_place, record_right, in_order};
 ghost use Rattle.table.specs.Seats.{hope_entry, hope_note};
 ghost use Rattle.table.specs.Table.{records, hope_wanted, least_hope as least_f_hat};
 ghost use Rattle.table.specs.declared.node.Node.{Node};
 
 use crate::node::Node;
 use crate::seats::{Hope, Low, Near};
-use crate::wanted::{HopeWanted, LowWanted, NearWanted, is_right};
+use crate::wanted::{Keyed, NearWanted, OpenWanted, is_right};
 use queue::heap;
 use roster::check;
 use search_model::search::Search;
@@ -29,92 +30,54 @@ pub fn order_decided()
     ensures { OrderLaw }
 {}
 
-// A place whose record is not within its limits, if there is one.
-fn wrong_record(table: &[Node]) -> Option<usize>
-    ensures { IsFailing (λ (_ : Node). right_at table.now) (length table.now) result }
-{
-    for i in 0..table.len() {
-        if !is_right(table[i].kept) {
-            return Some(i);
-        }
-    }
-    None
-}
-
-// Whether every record is within its limits.
-fn are_right(table: &[Node]) -> bool
-    ensures { result ≡ records_right table.now }
-{
-    match wrong_record(table) {
-        Some(_) => false,
-        None => true,
-    }
-}
-
-// The number of open places, if the low queue holds them.
-fn check_low(table: &[Node]) -> Option<usize>
-    requires few { length table.now ≤ 4294967296 }
-    requires limits { records_right table.now ≡ true }
-    ensures { result ≡ when (low_right table.now) (open_count table.now) }
-{
-    check::check::<Low, Node, LowWanted>(&LowWanted, table)
-}
-
-// The number of open places, if the hope queue holds them.
-fn check_hope(table: &[Node]) -> Option<usize>
-    requires few { length table.now ≤ 4294967296 }
-    requires limits { records_right table.now ≡ true }
-    ensures answer { result ≡ when (hope_right table.now) (open_count table.now) }
-    ensures held { HopeHeld table.now result }
-{
-    check::check::<Hope, Node, HopeWanted>(&HopeWanted, table)
-}
-
-// The number of near places for the least f̂, if the near queue holds them.
-fn check_near(state: Search, least: u32, table: &[Node]) -> Option<usize>
-    requires few { length table.now ≤ 4294967296 }
-    requires limits { records_right table.now ≡ true }
-    ensures { result ≡ when (near_right state least table.now) (near_count state least table.now) }
-{
-    check::check::<Near, Node, NearWanted>(&NearWanted { state, least }, table)
-}
-
 // The least f̂ of an open place, 0 where nothing is open: the head of the hope queue has it.
 pub fn least_hope(table: &[Node], opened: usize) -> u32
     requires { Holds cost_at_most cost_place hope_entry hope_note (expected_in hope_wanted table.now) opened table.now }
     ensures { result ≡ least_f_hat (records table.now) }
 {
-    match heap::head::<Hope, Node>(table, opened) {
-        Some(e) => e.cost,
-        None => 0,
-    }
+    heap::head::<Hope, Node>(table, opened).map_or(0, |head| head.cost)
 }
 
-// The numbers of open and of near places, if the near queue holds the near set.
-fn check_near_set(state: Search, opened: usize, table: &[Node]) -> Option<Queued>
-    requires few { length table.now ≤ 4294967296 }
-    requires limits { records_right table.now ≡ true }
-    requires hope { Holds cost_at_most cost_place hope_entry hope_note (expected_in hope_wanted table.now) opened table.now }
-    ensures { result ≡ when (near_right state (least_f_hat (records table.now)) table.now) (queued opened (near_count state (least_f_hat (records table.now)) table.now)) }
+// Whether every record is within its limits.
+fn are_right(table: &[Node]) -> bool
+    ensures { result ≡ list_all (λ n. record_right n.kept) table.now }
 {
-    match check_near(state, least_hope(table, opened), table) {
-        Some(nears) => Some(Queued { opened, nears }),
-        None => None,
-    }
+    table.iter().all(|node| is_right(node.kept))
 }
 
-// The numbers of open and of near places, if every queue holds what it should.
-fn check_queues(state: Search, table: &[Node]) -> Option<Queued>
-    requires few { length table.now ≤ 4294967296 }
-    requires limits { records_right table.now ≡ true }
-    ensures { result ≡ when (queues_right state table.now) (counted state table.now) }
-{
-    match check_low(table) {
-        Some(_) => match check_hope(table) {
-            Some(opened) => check_near_set(state, opened, table),
-            None => None,
-        },
-        None => None,
+// A table whose records are within their limits, and whose places an entry can hold.
+#[derive(Clone, Copy)]
+struct Limited<'a> {
+    nodes: &'a [Node],
+    ghost few: { length nodes.now ≤ 4294967296 },
+    ghost limits: { records_right nodes.now ≡ true },
+}
+
+impl Limited<'_> {
+    // The number of open places, if the queue holds them by its key.
+    fn check_open<Q: Keyed>(&self) -> Option<usize>
+        ensures answer { result ≡ when (open_right Q.key Q.seat_of self.now.nodes.now) (open_count self.now.nodes.now) }
+        ensures held { OpenHeld Q.key Q.seat_of self.now.nodes.now result }
+    {
+        check::check::<Q, Node, OpenWanted>(&OpenWanted, self.nodes)
+    }
+
+    // The number of near places, if the near queue holds them.
+    fn check_near(&self, near: NearWanted) -> Option<usize>
+        ensures { result ≡ when (near_right near.state near.least self.now.nodes.now) (near_count near.state near.least self.now.nodes.now) }
+    {
+        check::check::<Near, Node, NearWanted>(&near, self.nodes)
+    }
+
+    // The numbers of open and of near places, if every queue holds what it should.
+    fn check_queues(&self, state: Search) -> Option<Queued>
+        ensures { result ≡ when (queues_right state self.now.nodes.now) (counted state self.now.nodes.now) }
+    {
+        self.check_open::<Low>()?;
+        let opened = self.check_open::<Hope>()?;
+        let least = least_hope(self.nodes, opened);
+        let nears = self.check_near(NearWanted { state, least })?;
+        Some(Queued { opened, nears })
     }
 }
 
@@ -125,7 +88,7 @@ pub fn check_order(state: Search, table: &[Node]) -> Option<Queued>
     ensures holds { DecidedOrder state table.now result }
 {
     if are_right(table) {
-        check_queues(state, table)
+        Limited { nodes: table }.check_queues(state)
     } else {
         None
     }

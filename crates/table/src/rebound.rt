@@ -13,39 +13,43 @@ ghost use Rattle.table.specs.Table.{records, low_wanted, hope_wanted};
 use crate::node::Node;
 use crate::order::least_hope;
 use crate::seats::Near;
-use crate::wanted::{by_rank, is_near};
+use crate::wanted::{NearWanted, by_rank, is_near};
 use queue::indexed;
 use search_model::search::Search;
 
-// Inserts the place into a near queue of n if it is near, and returns the number of entries.
-fn add_near(state: Search, least: u32, table: &mut [Node], n: usize, place: usize) -> usize
-    requires few { (length table.old ≤ 4294967296) × (place < length table.old) }
-    requires limits { RecordLimits (record_at (records table.old) place) }
-    requires near { NearBelow state least table.old place n table.old }
-    ensures near { NearBelow state least table.old (place + 1) result table.new }
-    ensures only { NearOnly table.old table.new }
-{
-    let kept = table[place].kept;
-    if is_near(state, least, kept) {
-        indexed::insert::<Near, Node>(table, n, by_rank(kept, place as u32));
-        n + 1
-    } else {
+// Stays: the table changes under these methods, and a struct that holds a `&mut` keeps no ghost field, so `few` and `limits` are in each contract.
+impl NearWanted {
+    // Inserts the place into a near queue of n if it is near, and returns the number of entries.
+    fn add(self, table: &mut [Node], n: usize, place: usize) -> usize
+        requires few { length table.old ≤ 4294967296 }
+        requires place { place < length table.old }
+        requires limits { RecordLimits (record_at (records table.old) place) }
+        requires near { NearBelow self.state self.least table.old place n table.old }
+        ensures near { NearBelow self.state self.least table.old (place + 1) result table.new }
+        ensures only { NearOnly table.old table.new }
+    {
+        let kept = table[place].kept;
+        if is_near(self.state, self.least, kept) {
+            indexed::insert::<Near, Node>(table, n, by_rank(kept, place as u32));
+            n + 1
+        } else {
+            n
+        }
+    }
+
+    // Fills the near queue anew, and returns the number of entries.
+    fn refill(self, table: &mut [Node]) -> usize
+        requires few { length table.old ≤ 4294967296 }
+        requires limits { (p : ℕ) → RecordLimits (record_at (records table.old) p) }
+        ensures near { NearBelow self.state self.least table.old (length table.old) result table.new }
+        ensures only { NearOnly table.old table.new }
+    {
+        let mut n: usize = 0;
+        for place in 0..table.len() {
+            n = self.add(table, n, place);
+        }
         n
     }
-}
-
-// Fills the near queue anew for the least f̂, and returns the number of entries.
-fn refill_near(state: Search, least: u32, table: &mut [Node]) -> usize
-    requires few { length table.old ≤ 4294967296 }
-    requires limits { (p : ℕ) → RecordLimits (record_at (records table.old) p) }
-    ensures near { NearBelow state least table.old (length table.old) result table.new }
-    ensures only { NearOnly table.old table.new }
-{
-    let mut n: usize = 0;
-    for place in 0..table.len() {
-        n = add_near(state, least, table, n, place);
-    }
-    n
 }
 
 // Makes the near queue hold the near set under the bound of `state`, and returns the number of near places. The near queue may hold anything before.
@@ -58,5 +62,5 @@ pub fn rebound_near(state: Search, opened: usize, table: &mut [Node]) -> usize
     ensures order { InOrder state opened result table.new }
 {
     let least = least_hope(table, opened);
-    refill_near(state, least, table)
+    NearWanted { state, least }.refill(table)
 }

@@ -1,40 +1,84 @@
 // The queues that a node has a seat in.
-ghost use Rattle.std.specs.Prelude.{◌≡◌};
-ghost use Rattle.table.specs.Seats.{low_entry, with_low_entry, low_note, with_low_note, hope_entry, with_hope_entry, hope_note, with_hope_note, near_entry, with_near_entry, near_note, with_near_note, far_entry, with_far_entry, far_note, with_far_note};
+ghost use Rattle.std.specs.Prelude.{◌≡◌, ℕ};
 ghost use Rattle.std.proofs.Common.{rules};
+ghost use Rattle.queue.specs.Lens.{Lens};
+ghost use Rattle.table.specs.declared.node.Node.{Node};
+ghost use Rattle.table.specs.declared.node.Seat.{Seat};
+ghost use Rattle.table.specs.Order.{cost_place, near_place_of};
 
-use crate::node::Node;
+use crate::node::{Node, Seat};
 use queue::entry::{CostEntry, NearEntry};
 use queue::indexed::Homed;
+use queue::order::Ranked;
 use queue::slot::Slot;
 
-// Every open place, by f.
-pub struct Low;
+// An entry that names a place.
+pub trait Placed: Ranked + Copy {
+    ghost place_of: { Self → ℕ };
 
-impl Slot<Low> for Node {
-    type Entry = CostEntry;
+    fn place(&self) -> u32
+        ensures { result ≡ place_of self.now };
+}
 
-    ghost entry_of = { low_entry };
+impl Placed for CostEntry {
+    ghost place_of = { cost_place };
 
-    ghost with_entry = { with_low_entry };
-
-    ghost lens = { Prim.search rules };
-
-    fn entry(&self) -> CostEntry {
-        self.low.entry
-    }
-
-    fn set_entry(&mut self, e: CostEntry) {
-        self.low.entry = e;
+    fn place(&self) -> u32 {
+        self.place
     }
 }
 
-impl Homed<Low> for Node {
-    ghost home_of = { λ e. e.place };
+impl Placed for NearEntry {
+    ghost place_of = { near_place_of };
 
-    ghost note_of = { low_note };
+    fn place(&self) -> u32 {
+        let NearEntry { place, .. } = *self;
+        place
+    }
+}
 
-    ghost with_note = { with_low_note };
+// A queue that a node has a seat in: the seat is read and written with nothing else of the node.
+pub trait Seated {
+    type Entry: Placed;
+
+    ghost seat_of: { Node → Seat Self.Entry };
+
+    ghost with_seat: { Node → Seat Self.Entry → Node };
+
+    fn seat(node: &Node) -> Seat<Self::Entry>
+        ensures { result ≡ seat_of node.now };
+
+    fn set_seat(node: &mut Node, seat: Seat<Self::Entry>)
+        ensures { node.new ≡ with_seat node.old seat };
+
+    ghost lens: { Lens seat_of with_seat };
+}
+
+impl<Q: Seated> Slot<Q> for Node {
+    type Entry = Q::Entry;
+
+    ghost entry_of = { λ n. (Q.seat_of n).entry };
+
+    ghost with_entry = { λ n e. Q.with_seat n (record { entry = e; note = (Q.seat_of n).note }) };
+
+    ghost lens = { Prim.search rules };
+
+    fn entry(&self) -> Q::Entry {
+        Q::seat(self).entry
+    }
+
+    fn set_entry(&mut self, e: Q::Entry) {
+        let note = Q::seat(self).note;
+        Q::set_seat(self, Seat { entry: e, note });
+    }
+}
+
+impl<Q: Seated> Homed<Q> for Node {
+    ghost home_of = { λ e. Q.Entry.place_of e };
+
+    ghost note_of = { λ n. (Q.seat_of n).note };
+
+    ghost with_note = { λ n slot. Q.with_seat n (record { entry = (Q.seat_of n).entry; note = slot }) };
 
     ghost note_limit = { 4294967296 };
 
@@ -42,156 +86,114 @@ impl Homed<Low> for Node {
 
     ghost apart = { Prim.search rules };
 
-    fn home(e: &CostEntry) -> usize {
-        e.place as usize
+    fn home(e: &Q::Entry) -> usize {
+        e.place() as usize
     }
 
     fn note(&self) -> usize {
-        self.low.note as usize
+        Q::seat(self).note as usize
     }
 
     fn set_note(&mut self, slot: usize) {
-        self.low.note = slot as u32;
+        let entry = Q::seat(self).entry;
+        Q::set_seat(
+            self,
+            Seat {
+                entry,
+                note: slot as u32,
+            },
+        );
+    }
+}
+
+// Every open place, by f.
+pub struct Low;
+
+impl Seated for Low {
+    type Entry = CostEntry;
+
+    ghost seat_of = { λ n. n.low };
+
+    ghost with_seat = { λ n s. record n { low = s } };
+
+    ghost lens = { Prim.search rules };
+
+    fn seat(node: &Node) -> Seat<CostEntry> {
+        node.low
+    }
+
+    fn set_seat(node: &mut Node, seat: Seat<CostEntry>)
+        ensures { node.new ≡ record node.old { low = seat } }
+    {
+        node.low = seat;
     }
 }
 
 // Every open place, by f̂.
 pub struct Hope;
 
-impl Slot<Hope> for Node {
+impl Seated for Hope {
     type Entry = CostEntry;
 
-    ghost entry_of = { hope_entry };
+    ghost seat_of = { λ n. n.hope };
 
-    ghost with_entry = { with_hope_entry };
+    ghost with_seat = { λ n s. record n { hope = s } };
 
     ghost lens = { Prim.search rules };
 
-    fn entry(&self) -> CostEntry {
-        self.hope.entry
+    fn seat(node: &Node) -> Seat<CostEntry> {
+        node.hope
     }
 
-    fn set_entry(&mut self, e: CostEntry) {
-        self.hope.entry = e;
-    }
-}
-
-impl Homed<Hope> for Node {
-    ghost home_of = { λ e. e.place };
-
-    ghost note_of = { hope_note };
-
-    ghost with_note = { with_hope_note };
-
-    ghost note_limit = { 4294967296 };
-
-    ghost notes = { Prim.search rules };
-
-    ghost apart = { Prim.search rules };
-
-    fn home(e: &CostEntry) -> usize {
-        e.place as usize
-    }
-
-    fn note(&self) -> usize {
-        self.hope.note as usize
-    }
-
-    fn set_note(&mut self, slot: usize) {
-        self.hope.note = slot as u32;
+    fn set_seat(node: &mut Node, seat: Seat<CostEntry>)
+        ensures { node.new ≡ record node.old { hope = seat } }
+    {
+        node.hope = seat;
     }
 }
 
 // The near set, by rank, then by f̂.
 pub struct Near;
 
-impl Slot<Near> for Node {
+impl Seated for Near {
     type Entry = NearEntry;
 
-    ghost entry_of = { near_entry };
+    ghost seat_of = { λ n. n.near };
 
-    ghost with_entry = { with_near_entry };
+    ghost with_seat = { λ n s. record n { near = s } };
 
     ghost lens = { Prim.search rules };
 
-    fn entry(&self) -> NearEntry {
-        self.near.entry
+    fn seat(node: &Node) -> Seat<NearEntry> {
+        node.near
     }
 
-    fn set_entry(&mut self, e: NearEntry) {
-        self.near.entry = e;
-    }
-}
-
-impl Homed<Near> for Node {
-    ghost home_of = { λ e. e.place };
-
-    ghost note_of = { near_note };
-
-    ghost with_note = { with_near_note };
-
-    ghost note_limit = { 4294967296 };
-
-    ghost notes = { Prim.search rules };
-
-    ghost apart = { Prim.search rules };
-
-    fn home(e: &NearEntry) -> usize {
-        e.place as usize
-    }
-
-    fn note(&self) -> usize {
-        self.near.note as usize
-    }
-
-    fn set_note(&mut self, slot: usize) {
-        self.near.note = slot as u32;
+    fn set_seat(node: &mut Node, seat: Seat<NearEntry>)
+        ensures { node.new ≡ record node.old { near = seat } }
+    {
+        node.near = seat;
     }
 }
 
 // The open places that are not near, by f̂; only while an advance runs.
 pub struct Far;
 
-impl Slot<Far> for Node {
+impl Seated for Far {
     type Entry = CostEntry;
 
-    ghost entry_of = { far_entry };
+    ghost seat_of = { λ n. n.far };
 
-    ghost with_entry = { with_far_entry };
+    ghost with_seat = { λ n s. record n { far = s } };
 
     ghost lens = { Prim.search rules };
 
-    fn entry(&self) -> CostEntry {
-        self.far.entry
+    fn seat(node: &Node) -> Seat<CostEntry> {
+        node.far
     }
 
-    fn set_entry(&mut self, e: CostEntry) {
-        self.far.entry = e;
-    }
-}
-
-impl Homed<Far> for Node {
-    ghost home_of = { λ e. e.place };
-
-    ghost note_of = { far_note };
-
-    ghost with_note = { with_far_note };
-
-    ghost note_limit = { 4294967296 };
-
-    ghost notes = { Prim.search rules };
-
-    ghost apart = { Prim.search rules };
-
-    fn home(e: &CostEntry) -> usize {
-        e.place as usize
-    }
-
-    fn note(&self) -> usize {
-        self.far.note as usize
-    }
-
-    fn set_note(&mut self, slot: usize) {
-        self.far.note = slot as u32;
+    fn set_seat(node: &mut Node, seat: Seat<CostEntry>)
+        ensures { node.new ≡ record node.old { far = seat } }
+    {
+        node.far = seat;
     }
 }

@@ -1,14 +1,16 @@
 // What the queues of a table expect of a place.
-ghost use Rattle.std.specs.Prelude.{◌≡◌, ◌*◌, ◌^◌, ◌<◌, true, nat_le};
+ghost use Rattle.std.specs.Prelude.{◌≡◌, ℕ, ◌*◌, ◌^◌, ◌<◌, true, nat_le};
+ghost use Rattle.std.proofs.Common.{rules};
 ghost use Rattle.search_model.specs.Choice.{is_near};
-ghost use Rattle.search_model.specs.Fields.{RecordLimits};
+ghost use Rattle.search_model.specs.Fields.{RecordLimits, SeenLimits};
 ghost use Rattle.search_model.specs.Records.{f, f_hat, is_open};
+ghost use Rattle.search_model.specs.declared.records.Record.{Record};
 ghost use Rattle.table.specs.Asked.{askable, asked};
 ghost use Rattle.table.specs.Order.{record_right};
-ghost use Rattle.table.specs.Table.{low_wanted, hope_wanted, near_wanted};
+ghost use Rattle.table.specs.Table.{open_entry, low_wanted, hope_wanted, near_wanted};
 
 use crate::node::Node;
-use crate::seats::{Hope, Low, Near};
+use crate::seats::{Hope, Low, Near, Seated};
 use floors::limit::LIMIT;
 use queue::entry::{CostEntry, NearEntry};
 use roster::check::Expect;
@@ -61,7 +63,47 @@ pub fn is_near(state: Search, least: u32, kept: Record) -> bool
     requires { record_right kept ≡ true }
     ensures { result ≡ is_near state least kept }
 {
-    kept.is_open() && is_within(state.bound, least, hope_sum(kept))
+    kept.is_open() && is_within(state.bound, least, Hope::sum(kept))
+}
+
+// A queue of every open place, by a key of its record.
+pub trait Keyed: Seated<Entry = CostEntry> {
+    ghost key: { Record → ℕ };
+
+    fn sum(kept: Record) -> u32
+        requires { key kept < 2 ^ 32 }
+        ensures { result ≡ key kept };
+
+    ghost small: { (r : Record) → SeenLimits r → key r < 2 ^ 32 };
+}
+
+impl Keyed for Low {
+    ghost key = { f };
+
+    ghost small = { Prim.search rules };
+
+    fn sum(kept: Record) -> u32 {
+        low_sum(kept)
+    }
+}
+
+impl Keyed for Hope {
+    ghost key = { f_hat };
+
+    ghost small = { Prim.search rules };
+
+    fn sum(kept: Record) -> u32 {
+        hope_sum(kept)
+    }
+}
+
+// A place's entry by the key of a queue.
+pub fn by_key<Q: Keyed>(kept: Record, place: u32) -> CostEntry
+    requires { Q.key kept < 2 ^ 32 }
+    ensures { result ≡ record { cost = Q.key kept; place = place } }
+{
+    let cost = Q::sum(kept);
+    CostEntry { cost, place }
 }
 
 // A place's entry by f.
@@ -69,10 +111,7 @@ pub fn by_low(kept: Record, place: u32) -> CostEntry
     requires { f kept < 2 ^ 32 }
     ensures { result ≡ record { cost = f kept; place = place } }
 {
-    CostEntry {
-        cost: low_sum(kept),
-        place,
-    }
+    by_key::<Low>(kept, place)
 }
 
 // A place's entry by f̂.
@@ -80,10 +119,7 @@ pub fn by_hope(kept: Record, place: u32) -> CostEntry
     requires { f_hat kept < 2 ^ 32 }
     ensures { result ≡ record { cost = f_hat kept; place = place } }
 {
-    CostEntry {
-        cost: hope_sum(kept),
-        place,
-    }
+    by_key::<Hope>(kept, place)
 }
 
 // A place's entry by rank, then by f̂.
@@ -91,7 +127,7 @@ pub fn by_rank(kept: Record, place: u32) -> NearEntry
     requires { f_hat kept < 2 ^ 32 }
     ensures { result ≡ record { steps = kept.steps; cost = f_hat kept; place = place } }
 {
-    let cost = hope_sum(kept);
+    let cost = Hope::sum(kept);
     NearEntry {
         steps: kept.steps,
         cost,
@@ -99,13 +135,21 @@ pub fn by_rank(kept: Record, place: u32) -> NearEntry
     }
 }
 
+// The entry that a queue of every open place wants of a place.
+pub fn want<Q: Keyed>(node: Node, place: u32) -> Option<CostEntry>
+    requires { RecordLimits node.kept }
+    ensures { result ≡ open_entry Q.key node place }
+{
+    let kept = node.kept;
+    kept.is_open().then(|| by_key::<Q>(kept, place))
+}
+
 // The entry that the low queue wants of a place.
 pub fn want_low(node: Node, place: u32) -> Option<CostEntry>
     requires { RecordLimits node.kept }
     ensures { result ≡ low_wanted node place }
 {
-    let kept = node.kept;
-    kept.is_open().then(|| by_low(kept, place))
+    want::<Low>(node, place)
 }
 
 // The entry that the hope queue wants of a place.
@@ -113,36 +157,19 @@ pub fn want_hope(node: Node, place: u32) -> Option<CostEntry>
     requires { RecordLimits node.kept }
     ensures { result ≡ hope_wanted node place }
 {
-    let kept = node.kept;
-    kept.is_open().then(|| by_hope(kept, place))
+    want::<Hope>(node, place)
 }
 
-// Every open place, by f.
+// Every open place, by the key of the queue.
 #[derive(Clone, Copy)]
-pub struct LowWanted;
+pub struct OpenWanted;
 
-impl Expect<Low, Node> for LowWanted {
-    ghost wanted = { λ _. asked low_wanted };
+impl<Q: Keyed> Expect<Q, Node> for OpenWanted {
+    ghost wanted = { λ _. asked (open_entry Q.key) };
 
     fn expected(&self, node: &Node, home: usize) -> Option<CostEntry> {
         if can_ask(node, home) {
-            want_low(*node, home as u32)
-        } else {
-            None
-        }
-    }
-}
-
-// Every open place, by f̂.
-#[derive(Clone, Copy)]
-pub struct HopeWanted;
-
-impl Expect<Hope, Node> for HopeWanted {
-    ghost wanted = { λ _. asked hope_wanted };
-
-    fn expected(&self, node: &Node, home: usize) -> Option<CostEntry> {
-        if can_ask(node, home) {
-            want_hope(*node, home as u32)
+            want::<Q>(*node, home as u32)
         } else {
             None
         }

@@ -1,5 +1,5 @@
 use Rattle.std.proofs.Common.{arith, length-set}
-use Rattle.queue.proofs.Sifts.{rising_none, rising_more, risen_root, risen_fits}
+use Rattle.queue.proofs.Sifts.{rising_none, rising_more}
 use Rattle.queue.proofs.heap.sift_up.Goals as goal
 
 pub loop-hole-init : goal.loop-hole-init
@@ -12,12 +12,3 @@ loop-hole-preserved g c = (
       c.index-slots-hole.result c.set_entry.new.self
       c.loop-hole.invariant.1 (omega arith) (omega arith) c.parent_slot-parent.ensures c.slot_entry-above.ensures c.set_entry.ensures c.if-fits_above.ensures,
 )
-
-pub returns-then-fits_above : goal.returns-then-fits_above
-returns-then-fits_above g c =
-    risen_fits g.R.Entry.Ranked.at_most g.met.R.Entry.Ranked.ordered g.R.Slot.entry_of g.R.Slot.with_entry g.met.R.Slot.lens c.args.slots.now c.loop-hole.slots c.args.from c.loop-hole.hole c.parent_slot-parent.result c.args.e
-    c.loop-hole.invariant.1 c.parent_slot-parent.ensures c.if-fits_above.ensures
-
-pub returns-after-loop-hole : goal.returns-after-loop-hole
-returns-after-loop-hole g c =
-    risen_root g.R.Entry.Ranked.at_most g.met.R.Entry.Ranked.ordered g.R.Slot.entry_of g.R.Slot.with_entry g.met.R.Slot.lens c.args.slots.now c.loop-hole.slots c.args.from c.loop-hole.hole c.args.e c.loop-hole.invariant.1 (omega arith)
