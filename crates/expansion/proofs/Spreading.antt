@@ -1,5 +1,5 @@
 -- The legs of a place that has been closed, taken one after another.
-use Rattle.std.proofs.Common.{◌≡◌, ℕ, ◌+◌, ◌<◌, ◌≤◌, List, length, set, Some, None, sym, ap, ◌∙◌, subst, add-one, arith}
+use Rattle.std.proofs.Common.{◌≡◌, ℕ, ◌+◌, ◌≤◌, List, length, Some, None, sym, ap, ◌∙◌, subst, add-one, arith}
 use Rattle.std.proofs.lemmas.List.{length-map}
 use Rattle.floors.specs.declared.leg.Leg.{Leg}
 use Rattle.floors.specs.Guided.{Guided, SoundGuided}
@@ -14,11 +14,10 @@ use Rattle.search_model.proofs.Turns.{along_barred, spread_own}
 use Rattle.frontier.specs.declared.frontier.Frontier.{Frontier}
 use Rattle.table.specs.declared.node.Node.{Node}
 use Rattle.frontier.specs.Frontier.{Prepared, RecordPut}
-use Rattle.frontier.specs.Moves.{Closing}
 use Rattle.table.specs.Table.{records}
-use Rattle.frontier.proofs.Putting.{node_at}
+use Rattle.frontier.proofs.Nodes.{node_at}
 use Rattle.table.proofs.OrderAsked.{records_at}
-use Rattle.expansion.specs.Expanding.{Offerable, Offered, Expandable, Expanded}
+use Rattle.expansion.specs.Expanding.{Offered, Expandable}
 
 -- The legs of n below k are taken, from the table t.
 pub record Spread (g : Guided) (s : Search) (t : List Node) (n k : ℕ) (fr' : Frontier) (t' : List Node) : Type 0 where
@@ -40,12 +39,6 @@ spread_barred {g} {s} {t} {n} {k} S e = record {
 
 -- A place that can be expanded.
 module _ {m : Meaning} {s : Search} {fr : Frontier} {t : List Node} {n : ℕ} (E : Expandable m s fr t n) where
-  pub place_on : n < length t
-  place_on = subst (λ (x : ℕ). n < x) (length-map t (λ (x : Node). x.kept)) (seen_on (records t) n E.seen)
-
-  pub can_close : Closing s fr t n
-  can_close = record { prepared = E.prepared; on = place_on; seen = E.seen }
-
   -- the label as it is read
   read_label : (node_at t n).kept.label ≡ (at (records t) n).label
   read_label = ap (λ (r : Record). r.label) (sym (records_at t n))
@@ -65,22 +58,8 @@ module _
     sized₁ : length t₁ ≡ g.floor.size
     sized₁ = C.same_length ∙ E.sized
 
-    -- these are all
-    pub spread_all : k ≡ g.floor.count n → Expanded g s t n fr₂ t₂
-    spread_all all = record {
-      prepared = S.prepared;
-      records_are = S.records_are ∙ ap (spread g n k) C.records_set ∙ ap (λ (i : ℕ). spread g n i (set (records t) n (closed (at (records t) n)))) all;
-      same_length = S.same_length ∙ C.same_length;
-    }
-
     -- the next leg is usable
     module _ (sound : SoundGuided g) (l : Leg) (e : g.floor.leg n k ≡ Some l) where
-      pub can_offer : Offerable s fr₂ t₂ l.target
-      can_offer = record {
-        prepared = S.prepared;
-        on = subst (λ (x : ℕ). l.target < x) (sym (S.same_length ∙ sized₁)) (sound.floor.limits.targets n k l e);
-      }
-
       -- the place still has the label that was read
       same_label : (node_at t n).kept.label ≡ (at (records t₂) n).label
       same_label =
