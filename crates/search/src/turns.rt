@@ -58,6 +58,7 @@ impl Running {
         let mut front = start(state, queued.opened, queued.nears, table);
         let mut spent = 0;
         let mut total = state.total;
+        // Stays: a `for` over 0..=budget would need an end after it that is never reached, and the proof of that.
         loop {
             let chosen = choose(front, state, table);
             match decide(floor, chosen.1, spent, budget) {
