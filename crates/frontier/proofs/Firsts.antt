@@ -1,13 +1,18 @@
 -- The heads of the queues are low, hope and near.
-use Rattle.std.proofs.Common.{◌≡◌, ℕ, ◌*◌, ◌<◌, ◌≤◌, Bool, true, false, not, eqb, ltb, leb, ◌⊎◌, List, length, Some, None, Option, sym, refl, ap, ◌∙◌, subst, inl, inr, ⊎_elim, mul-le-mul_right, arith}
+use Rattle.std.proofs.Common.{◌≡◌, ℕ, ◌*◌, ◌<◌, ◌≤◌, Bool, true, false, not, cond, eqb, ltb, leb, ◌⊎◌, List, length, Some, None, Option, sym, refl, ap, ◌∙◌, subst, inl, inr, ⊎_elim, mul-le-mul_right, arith}
 use Rattle.std.proofs.lemmas.List.{length-map}
 use Rattle.std.proofs.lemmas.Bool.{or_cases, and_parts, and_from, ltb-true, eqb-true, eq-eqb, leb-true, le-leb, both_ways, cases_Bool, not_from_false}
+use Rattle.std.specs.Option.{option_map_or}
+use Rattle.std.proofs.lemmas.Map.Entries.{option_filter}
+use Rattle.queue.specs.Calls.{Head}
+use Rattle.queue.specs.Entries.{entries}
 use Rattle.queue.specs.Keys.{cost_at_most, near_at_most}
 use Rattle.queue.specs.declared.entry.CostEntry.{CostEntry}
 use Rattle.queue.specs.declared.entry.NearEntry.{NearEntry}
 use Rattle.roster.specs.Check.{expected_in}
 use Rattle.roster.specs.Holds.{LeastExpected}
 use Rattle.roster.proofs.Expectations.{none_some}
+use Rattle.roster.proofs.Holding.{holds_head}
 use Rattle.search_model.specs.declared.records.Record.{Record}
 use Rattle.search_model.specs.declared.search.Search.{Search}
 use Rattle.search_model.specs.Advance.{low_mark}
@@ -22,6 +27,8 @@ use Rattle.frontier.specs.Choose.{Choosing, NearReady, StillReady}
 use Rattle.frontier.specs.Frontier.{Prepared, near_side_wanted, near_side}
 use Rattle.frontier.specs.Moves.{HeadWithin, EntryWithin, Dropped}
 use Rattle.table.specs.Order.{cost_place, near_place_of}
+use Rattle.table.specs.Seats.{low_entry, low_note, hope_entry, hope_note, near_entry, near_note}
+use Rattle.frontier.proofs.Chains.{filter_some, filter_none}
 use Rattle.table.specs.Table.{records, open_entry, low_wanted, hope_wanted, near_entry_of}
 use Rattle.frontier.proofs.Putting.{node_at, no_node}
 use Rattle.frontier.proofs.Reading.{kept_at, wants, wanted_here, cost_before}
@@ -57,17 +64,26 @@ module _ (key : Record → ℕ) (t : List Node) where
         subst (λ (k : ℕ). Before k e.place (key (at (records t) q)) q) (sym head_cost)
         (subst (λ (r : Record). Before e.cost e.place (key r) q) (kept_at t q) (cost_before e (made (node_at t q) q) (L.1 q (made (node_at t q) q) (here q o))))
 
-pub low_first : (t : List Node) (e : CostEntry) → LeastExpected cost_at_most cost_place (expected_in low_wanted t) (Some e) → low_place (records t) ≡ Some e.place
-low_first t e L = low_is (records t) e.place (head_opened f t e L) (head_first f t e L)
+-- What the head of the low queue says.
+module _ {s : Search} {fr : Frontier} {t : List Node} (P : Prepared s fr t) (o : Option CostEntry) (H : Head cost_at_most fr.opened (entries low_entry fr.opened t) o) where
+  least_low : LeastExpected cost_at_most cost_place (expected_in low_wanted t) o
+  least_low = holds_head cost_at_most cost_place low_entry low_note P.ready.low o H
 
-pub hope_first : (t : List Node) (e : CostEntry) → LeastExpected cost_at_most cost_place (expected_in hope_wanted t) (Some e) → hope_place (records t) ≡ Some e.place
+  module _ (e : CostEntry) (is : o ≡ Some e) where
+    first_low : LeastExpected cost_at_most cost_place (expected_in low_wanted t) (Some e)
+    first_low = subst (LeastExpected cost_at_most cost_place (expected_in low_wanted t)) is least_low
+
+    pub low_first : low_place (records t) ≡ Some e.place
+    low_first = low_is (records t) e.place (head_opened f t e first_low) (head_first f t e first_low)
+
+    pub low_mark_first : low_mark (records t) ≡ Some e.cost
+    low_mark_first = rw (low_first, low_mark) (ap Some (head_cost f t e first_low))
+
+  pub low_mark_none : o ≡ None → low_mark (records t) ≡ None
+  low_mark_none is = rw (low_none (records t) (nothing_open f t (subst (LeastExpected cost_at_most cost_place (expected_in low_wanted t)) is least_low)), low_mark)
+
+hope_first : (t : List Node) (e : CostEntry) → LeastExpected cost_at_most cost_place (expected_in hope_wanted t) (Some e) → hope_place (records t) ≡ Some e.place
 hope_first t e L = hope_is (records t) e.place (head_opened f_hat t e L) (head_first f_hat t e L)
-
-pub low_mark_first : (t : List Node) (e : CostEntry) → LeastExpected cost_at_most cost_place (expected_in low_wanted t) (Some e) → low_mark (records t) ≡ Some e.cost
-low_mark_first t e L = rw (low_first t e L, low_mark) (ap Some (head_cost f t e L))
-
-pub low_mark_none : (t : List Node) → LeastExpected cost_at_most cost_place (expected_in low_wanted t) None → low_mark (records t) ≡ None
-low_mark_none t L = rw (low_none (records t) (nothing_open f t L), low_mark)
 
 -- The order of near entries.
 abbrev EntryBefore : NearEntry → NearEntry → Type 0
@@ -164,36 +180,66 @@ module _ {s : Search} {fr : Frontier} {t : List Node} {hope mark : ℕ} (N : Nea
     pub near_first : near_place s rs ≡ Some e.place
     near_first = near_is s rs hope e.place N.is_hope head_near before
 
-  -- the choice of near or hope
-  pub near_chosen : (e : NearEntry) → LeastExpected near_at_most near_place_of (expected_in (near_side_wanted s) t) (Some e) → leb (s.bound.b * e.cost) (s.bound.a * mark) ≡ true → choice s mark rs ≡ Some e.place
+  near_chosen : (e : NearEntry) → LeastExpected near_at_most near_place_of (expected_in (near_side_wanted s) t) (Some e) → leb (s.bound.b * e.cost) (s.bound.a * mark) ≡ true → choice s mark rs ≡ Some e.place
   near_chosen e L w =
       choice_near s mark rs e.place (near_first e L) (subst (λ (k : ℕ). leb (s.bound.b * k) (s.bound.a * mark) ≡ true) (sym (near_cost e L)) w)
 
-  pub hope_chosen : (e : NearEntry) → LeastExpected near_at_most near_place_of (expected_in (near_side_wanted s) t) (Some e) → leb (s.bound.b * e.cost) (s.bound.a * mark) ≡ false → choice s mark rs ≡ Some hope
+  hope_chosen : (e : NearEntry) → LeastExpected near_at_most near_place_of (expected_in (near_side_wanted s) t) (Some e) → leb (s.bound.b * e.cost) (s.bound.a * mark) ≡ false → choice s mark rs ≡ Some hope
   hope_chosen e L out =
       choice_hope s mark rs e.place hope (near_first e L) (subst (λ (k : ℕ). leb (s.bound.b * k) (s.bound.a * mark) ≡ false) (sym (near_cost e L)) out) N.is_hope N.close
 
--- The choice by hope.
-module _ (s : Search) (t : List Node) (mark : ℕ) (e : CostEntry) (L : LeastExpected cost_at_most cost_place (expected_in hope_wanted t) (Some e)) where
-  pub near_ready : {fr fr' : Frontier} {t' : List Node} → Choosing s fr t → leb (s.bound.b * e.cost) (s.bound.a * mark) ≡ true → Dropped s t e.cost fr' t' → NearReady s fr' t' e.place mark
-  near_ready {fr} {fr'} {t'} C w D = record {
-    choosing = record { prepared = D.same.prepared; bounded = C.bounded };
-    is_hope = ap hope_place D.same.same_records ∙ hope_first t e L;
-    close = subst (λ (k : ℕ). leb (s.bound.b * k) (s.bound.a * mark) ≡ true) (sym cost_is) w;
-    covers = D.same.covers ∙ sym cost_is;
-    head = subst (HeadWithin s t') (sym cost_is) D.head;
-  }
+  -- the choice of near or hope
+  pub near_or_hope_chosen : (o : Option NearEntry) {r : Option NearEntry} {p : ℕ} → Head near_at_most fr.nears (entries near_entry fr.nears t) o
+      → r ≡ option_filter (λ (e : NearEntry). leb (s.bound.b * e.cost) (s.bound.a * mark)) o → p ≡ option_map_or (λ (e : NearEntry). e.place) r hope
+      → choice s mark rs ≡ Some p
+  near_or_hope_chosen o H f m =
+      at o (holds_head near_at_most near_place_of near_entry near_note N.choosing.prepared.ready.near o H)
+      ∙ ap Some (sym (m ∙ ap (λ (r : Option NearEntry). option_map_or (λ (e : NearEntry). e.place) r hope) f))
     where
-      cost_is : f_hat (at (records t') e.place) ≡ e.cost
-      cost_is = ap (λ (rs : List Record). f_hat (at rs e.place)) D.same.same_records ∙ head_cost f_hat t e L
+      at : (o : Option NearEntry) → LeastExpected near_at_most near_place_of (expected_in (near_side_wanted s) t) o
+          → choice s mark rs ≡ Some (option_map_or (λ (e : NearEntry). e.place) (option_filter (λ (e : NearEntry). leb (s.bound.b * e.cost) (s.bound.a * mark)) o) hope)
+      at None L = absurd (near_some L)
+      at (Some e) L = by (leb (s.bound.b * e.cost) (s.bound.a * mark)) refl
+        where
+          by : (b : Bool) → leb (s.bound.b * e.cost) (s.bound.a * mark) ≡ b → choice s mark rs ≡ Some (option_map_or (λ (e : NearEntry). e.place) (cond b (Some e) None) hope)
+          by true w = near_chosen e L w
+          by false w = hope_chosen e L w
 
-  pub low_chosen : (low : ℕ) → low_place (records t) ≡ Some low → leb (s.bound.b * e.cost) (s.bound.a * mark) ≡ false → choice s mark (records t) ≡ Some low
-  low_chosen low is out =
-      choice_low s mark (records t) e.place (hope_first t e L) (subst (λ (k : ℕ). leb (s.bound.b * k) (s.bound.a * mark) ≡ false) (sym (head_cost f_hat t e L)) out) ∙ is
+-- The choice by hope, the head of the hope queue, if it is within the mark.
+module _ {s : Search} {fr : Frontier} {t : List Node} (C : Choosing s fr t) (mark : ℕ) (o : Option CostEntry) {r : Option CostEntry}
+    (H : Head cost_at_most fr.opened (entries hope_entry fr.opened t) o) (passed : r ≡ option_filter (λ (e : CostEntry). leb (s.bound.b * e.cost) (s.bound.a * mark)) o)
+  where
+    least_hope_entry : LeastExpected cost_at_most cost_place (expected_in hope_wanted t) o
+    least_hope_entry = holds_head cost_at_most cost_place hope_entry hope_note C.prepared.ready.hope o H
 
--- where low is a place, hope is one too
-pub hope_there : (t : List Node) (low : ℕ) → low_place (records t) ≡ Some low → LeastExpected cost_at_most cost_place (expected_in hope_wanted t) None → ⊥
-hope_there t low is L = nothing_open f_hat t L low (head_open f (records t) low is)
+    pub near_ready : (e : CostEntry) {fr' : Frontier} {t' : List Node} → r ≡ Some e → Dropped s t e.cost fr' t' → NearReady s fr' t' e.place mark
+    near_ready e {fr'} {t'} is D = record {
+      choosing = record { prepared = D.same.prepared; bounded = C.bounded };
+      is_hope = ap hope_place D.same.same_records ∙ hope_first t e L;
+      close = subst (λ (k : ℕ). leb (s.bound.b * k) (s.bound.a * mark) ≡ true) (sym cost_is) w.1;
+      covers = D.same.covers ∙ sym cost_is;
+      head = subst (HeadWithin s t') (sym cost_is) D.head;
+    }
+      where
+        w : (o ≡ Some e) × (leb (s.bound.b * e.cost) (s.bound.a * mark) ≡ true)
+        w = filter_some _ o e (sym passed ∙ is)
+
+        L : LeastExpected cost_at_most cost_place (expected_in hope_wanted t) (Some e)
+        L = subst (LeastExpected cost_at_most cost_place (expected_in hope_wanted t)) w.0 least_hope_entry
+
+        cost_is : f_hat (at (records t') e.place) ≡ e.cost
+        cost_is = ap (λ (rs : List Record). f_hat (at rs e.place)) D.same.same_records ∙ head_cost f_hat t e L
+
+    -- low where hope is not within it; where low is a place, hope is one too
+    pub low_chosen : (low : ℕ) → low_place (records t) ≡ Some low → r ≡ None → choice s mark (records t) ≡ Some low
+    low_chosen low is none = by o least_hope_entry (sym passed ∙ none)
+      where
+        by : (o : Option CostEntry) → LeastExpected cost_at_most cost_place (expected_in hope_wanted t) o → option_filter (λ (e : CostEntry). leb (s.bound.b * e.cost) (s.bound.a * mark)) o ≡ None
+            → choice s mark (records t) ≡ Some low
+        by None L stop = absurd (nothing_open f_hat t L low (head_open f (records t) low is))
+        by (Some e) L stop =
+            choice_low s mark (records t) e.place (hope_first t e L)
+            (subst (λ (k : ℕ). leb (s.bound.b * k) (s.bound.a * mark) ≡ false) (sym (head_cost f_hat t e L)) (filter_none (λ (e : CostEntry). leb (s.bound.b * e.cost) (s.bound.a * mark)) e stop)) ∙ is
 
 -- nothing is moved
 pub still_ready : {s : Search} {fr : Frontier} {t : List Node} → Prepared s fr t → StillReady s t fr t

@@ -1,3 +1,4 @@
+pub mod Chains
 pub mod Requeue
 pub mod Putting
 pub mod Reading

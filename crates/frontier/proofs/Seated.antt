@@ -1,6 +1,6 @@
 -- One more place is put on its side.
-use Rattle.std.proofs.Common.{◌≡◌, ℕ, ◌+◌, ◌<◌, ◌≤◌, Bool, true, false, cond, not, eqb, ltb, List, length, get_or, is_some, Some, None, Option, sym, refl, ap, ◌∙◌, subst, ⊎_elim, arith, length-set, get_or-set_other, get_or-set_same}
-use Rattle.std.proofs.lemmas.Bool.{cases_lt, cases_eq, cond-true, cond-false, lt-ltb, le-ltb, both_ways, and_parts, and_from, cases_Bool}
+use Rattle.std.proofs.Common.{◌≡◌, ℕ, ◌+◌, ◌<◌, ◌≤◌, Bool, true, false, cond, not, ◌&&◌, if◌then◌else◌, eqb, ltb, List, length, get_or, is_some, Some, None, Option, sym, refl, ap, ◌∙◌, subst, ⊎_elim, arith, length-set, get_or-set_other, get_or-set_same}
+use Rattle.std.proofs.lemmas.Bool.{cases_lt, cases_eq, cond-true, cond-false, lt-ltb, le-ltb, both_ways, and_parts, and_from, and_right, cases_Bool}
 use Rattle.queue.specs.Keys.{cost_at_most, near_at_most}
 use Rattle.queue.specs.declared.entry.CostEntry.{CostEntry}
 use Rattle.queue.proofs.Parts.{part_set}
@@ -18,12 +18,16 @@ use Rattle.search_model.specs.declared.search.Search.{Search}
 use Rattle.search_model.specs.Choice.{is_near, within}
 use Rattle.search_model.specs.Fields.{RecordLimits}
 use Rattle.search_model.specs.Records.{f_hat, at, is_open}
+use Rattle.frontier.specs.declared.frontier.Frontier.{Frontier}
 use Rattle.table.specs.declared.node.Node.{Node}
 use Rattle.frontier.specs.Moves.{Rearranged}
 use Rattle.table.specs.Order.{cost_place, near_place_of, InOrder}
 use Rattle.table.specs.Seats.{low_entry, low_note, hope_entry, hope_note, near_entry, near_note, far_entry, far_note}
 use Rattle.frontier.specs.Starting.{Seatable, Seating, far_before}
-use Rattle.frontier.specs.Frontier.{near_side_wanted, far_side_wanted, far_side, near_side}
+use Rattle.frontier.specs.Sides.{number_of}
+use Rattle.frontier.specs.declared.side.Side.{Side}
+use Rattle.frontier.specs.declared.side.Side.TheVariants.{Near, Far}
+use Rattle.frontier.specs.Frontier.{AllBeyond, near_side_wanted, far_side_wanted, far_side, near_side}
 use Rattle.table.specs.Table.{records, low_wanted, hope_wanted, near_wanted, near_entry_of, least_hope}
 use Rattle.frontier.proofs.Putting.{no_node, node_at, FarOnly, renewed, written}
 use Rattle.frontier.proofs.Requeue.{face, faced}
@@ -32,6 +36,16 @@ use Rattle.frontier.proofs.Trimming.{expected_agree}
 not-true : (b : Bool) → not b ≡ true → b ≡ false
 not-true true e = absurd (both_ways false refl e)
 not-true false e = refl
+
+-- the near side is where the test of the near set says
+pub side_near : (s : Search) (least : ℕ) (kept : Record) {near : Bool} {side : Side} {number : ℕ} → near ≡ is_near s least kept → side ≡ (if near then Near else Far) → number ≡ number_of side
+    → (is_open kept && eqb number 1) ≡ is_near s least kept
+side_near s least kept {near} is on stored =
+    rw (stored, on) (by near is)
+  where
+    by : (b : Bool) → b ≡ is_near s least kept → (is_open kept && eqb (number_of (if b then Near else Far)) 1) ≡ is_near s least kept
+    by true e = ap (λ (b : Bool). b && true) (and_parts (is_open kept) (within s least kept) (sym e)).0 ∙ e
+    by false e = and_right (is_open kept) false refl ∙ e
 
 module _ (u : List Node) (place side : ℕ) (on : place < length u) where
   abbrev new : Node
@@ -87,13 +101,14 @@ module _ (u : List Node) (place side : ℕ) (on : place < length u) where
     face_at : (d : Node) (p : ℕ) → face (get_or v p d) ≡ face (get_or sat p d)
     face_at = kept_part face sat v F.same_length (part_kept_only F face (λ r e m. refl))
 
-    module _ (s : Search) (least : ℕ) {fars m : ℕ} (want : Option CostEntry) (same : want ≡ far_side_wanted new place) (U : Updated cost_at_most cost_place far_entry far_note fars place false want sat m v)
-        (side_is : near_side new ≡ is_near s least new.kept) where
-      abbrev Right : Record × ℕ → Type 0
-      Right x = near_side (faced x) ≡ is_near s least x.0
+    module _ (s : Search) (fr : Frontier) {m : ℕ} (want : Option CostEntry) (same : want ≡ far_side_wanted new place) (U : Updated cost_at_most cost_place far_entry far_note fr.fars place false want sat m v)
+        (side_is : near_side new ≡ is_near s fr.cover new.kept) where
+      abbrev Right : ℕ → Record × ℕ → Type 0
+      Right least x = near_side (faced x) ≡ is_near s least x.0
 
-      pub seat_more : (t : List Node) (opened nears : ℕ) → Seating s least t opened nears place fars u → Seating s least t opened nears (place + 1) m v
-      seat_more t opened nears S = record {
+      pub seat_more : (least : ℕ) (t : List Node) → Seating s least t fr place u
+          → Seating s least t (record { opened = fr.opened; nears = fr.nears; fars = m; cover = fr.cover }) (place + 1) v
+      seat_more least t S = record {
         same_records = kept_same ∙ S.same_records;
         same_length = F.same_length ∙ length-set u place new ∙ S.same_length;
         low = holds_kept_only F cost_at_most cost_place low_entry low_note (λ r e m. refl) (λ r e m. refl) (holds_set cost_at_most cost_place low_entry low_note S.low place no_node new refl refl);
@@ -103,10 +118,12 @@ module _ (u : List Node) (place side : ℕ) (on : place < length u) where
             (subst (λ (o : Option CostEntry). Holds cost_at_most cost_place far_entry far_note (put (expected_in (far_before place) u) place o) m v) same
             (U (expected_in (far_before place) u) (holds_set cost_at_most cost_place far_entry far_note S.far place no_node new refl refl) (ap is_some absent)))
             far_more;
-        seated = λ d p l. subst Right (sym (face_at d p)) (⊎_elim
-            (λ (e : p ≡ place). subst (λ (n : Node). Right (face n)) (sym (ap (λ (a : ℕ). get_or sat a d) e ∙ get_or-set_same u place new d on)) side_is)
-            (λ ne. subst (λ (n : Node). Right (face n)) (sym (get_or-set_other u place p new d ne)) (S.seated d p (below p l ne)))
+        seated = λ d p l. subst (Right least) (sym (face_at d p)) (⊎_elim
+            (λ (e : p ≡ place). subst (λ (n : Node). Right least (face n)) (sym (ap (λ (a : ℕ). get_or sat a d) e ∙ get_or-set_same u place new d on))
+            (subst (λ (k : ℕ). Right k (face new)) S.covers side_is))
+            (λ ne. subst (λ (n : Node). Right least (face n)) (sym (get_or-set_other u place p new d ne)) (S.seated d p (below p l ne)))
             (cases_eq p place));
+        covers = S.covers;
       }
         where
           below : (p : ℕ) → p < place + 1 → (p ≡ place → ⊥) → p < place
@@ -119,7 +136,8 @@ far_none t h = ⊎_elim
     (λ past. expected_past (far_before 0) t h past)
     (cases_lt h (length t))
 
-pub seat_none : {s : Search} {opened nears : ℕ} {t : List Node} (least : ℕ) → least ≡ least_hope (records t) → InOrder s opened nears t → Seating s least t opened nears 0 0 t
+pub seat_none : {s : Search} {opened nears : ℕ} {t : List Node} (least : ℕ) → least ≡ least_hope (records t) → InOrder s opened nears t
+    → Seating s least t (record { opened = opened; nears = nears; fars = 0; cover = least }) 0 t
 seat_none {s} {opened} {nears} {t} least is I = record {
   same_records = refl;
   same_length = refl;
@@ -128,9 +146,10 @@ seat_none {s} {opened} {nears} {t} least is I = record {
   near = subst (λ (k : ℕ). Holds near_at_most near_place_of near_entry near_note (expected_in (near_wanted s k) t) nears t) (sym is) I.near;
   far = holds_none cost_at_most cost_place far_entry far_note t (far_none t);
   seated = λ d p l. absurd (omega arith);
+  covers = refl;
 }
 
-pub can_seat_next : {s : Search} {least opened nears place fars : ℕ} {t u : List Node} → InOrder s opened nears t → length t ≤ 4096 → place < length t → Seating s least t opened nears place fars u → Seatable u place fars
+pub can_seat_next : {s : Search} {least opened nears place : ℕ} {fr : Frontier} {t u : List Node} → InOrder s opened nears t → length t ≤ 4096 → place < length t → Seating s least t fr place u → Seatable u place fr.fars
 can_seat_next {place = place} {t = t} {u = u} I small on S = record {
   far = S.far;
   on = omega (arith, on, S.same_length);
@@ -139,9 +158,9 @@ can_seat_next {place = place} {t = t} {u = u} I small on S = record {
 }
 
 -- After the last place.
-pub seat_all : {s : Search} {opened nears n fars : ℕ} {t u : List Node} (least : ℕ) → least ≡ least_hope (records t) → InOrder s opened nears t → length t ≤ 4096 → length t ≤ n → Seating s least t opened nears n fars u
-    → Rearranged s t (least_hope (records t)) (record { opened = opened; nears = nears; fars = fars; cover = least }) u
-seat_all {s} {opened} {nears} {n} {fars} {t} {u} least is I small whole S = record {
+pub seat_all : {s : Search} {opened nears n : ℕ} {fr : Frontier} {t u : List Node} (least : ℕ) → least ≡ least_hope (records t) → InOrder s opened nears t → length t ≤ 4096 → length t ≤ n → Seating s least t fr n u
+    → Rearranged s t (least_hope (records t)) fr u
+seat_all {s} {opened} {nears} {n} {fr} {t} {u} least is I small whole S = record {
   prepared = record {
     ready = record {
       limits = λ p. subst (λ (rs : List Record). RecordLimits (at rs p)) (sym S.same_records) (I.limits p);
@@ -152,19 +171,19 @@ seat_all {s} {opened} {nears} {n} {fars} {t} {u} least is I small whole S = reco
           (λ p l. ap (λ (b : Bool). cond b (Some (near_entry_of s (node_at u p) p)) None) (sym (S.seated no_node p (omega (arith, l, whole, S.same_length))))));
       far = holds_same cost_at_most cost_place far_entry far_note S.far (expected_agree (far_before n) far_side_wanted u
           (λ p l. cond-true (ltb p n) (far_side_wanted (node_at u p) p) None (lt-ltb p n (omega (arith, l, whole, S.same_length)))));
-      covered = covered;
+      covered = subst (AllBeyond s u) (sym S.covers) covered;
     };
     small = omega (arith, small, S.same_length);
   };
   same_records = S.same_records;
   same_length = S.same_length;
-  covers = is;
+  covers = S.covers ∙ is;
 }
   where
     kept_only : {E : Type 0} (w : Node → ℕ → Option E) → ((n : Node) (p : ℕ) → w n p ≡ w (faced (n.kept, 0)) p) → (k : ℕ) → expected_in w t k ≡ expected_in w u k
     kept_only w reads k = sym (expected_kept w (λ (n : Node). n.kept) (λ (r : Record). faced (r, 0)) reads t u S.same_records k)
 
-    covered : (d : Node) (p : ℕ) → p < length u → far_side (get_or u p d) ≡ true → within s least (get_or u p d).kept ≡ false
+    covered : AllBeyond s u least
     covered d p l far =
         let x = get_or u p d in
         let both = and_parts (is_open x.kept) (not (eqb x.side 1)) far in

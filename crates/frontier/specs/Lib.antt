@@ -1,3 +1,4 @@
+pub mod Sides
 pub mod Frontier
 pub mod Moves
 pub mod Choose

@@ -8,6 +8,7 @@ use Rattle.search_model.specs.declared.search.Search.{Search}
 use Rattle.search_model.specs.Choice.{is_near}
 use Rattle.search_model.specs.Fields.{RecordLimits}
 use Rattle.search_model.specs.Records.{at}
+use Rattle.frontier.specs.declared.frontier.Frontier.{Frontier}
 use Rattle.table.specs.declared.node.Node.{Node}
 use Rattle.table.specs.Order.{cost_place, near_place_of, InOrder}
 use Rattle.table.specs.Seats.{low_entry, low_note, hope_entry, hope_note, near_entry, near_note, far_entry, far_note}
@@ -25,15 +26,16 @@ pub record Seatable (u : List Node) (place fars : ℕ) : Type 0 where
   pub small : length u ≤ 4096
   pub limits : RecordLimits (at (records u) place)
 
--- The places below i are seated: the table has the records of t, and its queues but the far one hold what they held in t.
-pub record Seating (s : Search) (least : ℕ) (t : List Node) (opened nears i fars : ℕ) (u : List Node) : Type 0 where
+-- The places below i are seated: the table has the records of t, its queues but the far one hold what they held in t, and the cover is the least f̂.
+pub record Seating (s : Search) (least : ℕ) (t : List Node) (fr : Frontier) (i : ℕ) (u : List Node) : Type 0 where
   pub same_records : records u ≡ records t
   pub same_length : length u ≡ length t
-  pub low : Holds cost_at_most cost_place low_entry low_note (expected_in low_wanted t) opened u
-  pub hope : Holds cost_at_most cost_place hope_entry hope_note (expected_in hope_wanted t) opened u
-  pub near : Holds near_at_most near_place_of near_entry near_note (expected_in (near_wanted s least) t) nears u
-  pub far : Holds cost_at_most cost_place far_entry far_note (expected_in (far_before i) u) fars u
+  pub low : Holds cost_at_most cost_place low_entry low_note (expected_in low_wanted t) fr.opened u
+  pub hope : Holds cost_at_most cost_place hope_entry hope_note (expected_in hope_wanted t) fr.opened u
+  pub near : Holds near_at_most near_place_of near_entry near_note (expected_in (near_wanted s least) t) fr.nears u
+  pub far : Holds cost_at_most cost_place far_entry far_note (expected_in (far_before i) u) fr.fars u
   pub seated : (d : Node) (p : ℕ) → p < i → near_side (slice_index_or u p d) ≡ is_near s least (get_or u p d).kept
+  pub covers : fr.cover ≡ least
 
 -- A table in order, and small.
 pub record Startable (s : Search) (opened nears : ℕ) (t : List Node) : Type 0 where

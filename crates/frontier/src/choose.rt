@@ -7,7 +7,6 @@ ghost use Rattle.frontier.specs.Moves.{Dropped};
 ghost use Rattle.table.specs.Table.{records};
 
 use crate::frontier::Frontier;
-use crate::moves::{drop_far, raise};
 use queue::entry::{CostEntry, NearEntry};
 use queue::heap;
 use queue::order::Ranked;
@@ -24,77 +23,51 @@ pub struct Choice {
     pub mark: u32,
 }
 
-// Makes the cover the given one, with the first place on the near side within it.
-fn gather(frontier: Frontier, search: Search, table: &mut [Node], least: u32) -> Frontier
-    requires { Prepared search frontier table.old }
-    ensures { Dropped search table.old least result table.new }
-{
-    if frontier.cover < least {
-        let raised = raise(frontier, search, table, least);
-        drop_far(raised, search, table, least)
-    } else {
-        drop_far(frontier, search, table, least)
-    }
-}
-
-// Near where it is within the mark, otherwise hope, which is.
-fn near_or_hope(frontier: Frontier, search: Search, table: &[Node], hope: u32, mark: u32) -> u32
-    requires { NearReady search frontier table.now hope mark }
-    ensures { choice search mark (records table.now) ≡ Some result }
-{
-    match heap::head::<Near, Node>(table, frontier.nears) {
-        Some(near) => {
-            if is_within(search.bound, mark, near.cost) {
-                near.place
-            } else {
-                hope
-            }
+impl Frontier {
+    // Makes the cover the given one, with the first place on the near side within it.
+    fn gather(&mut self, search: Search, table: &mut [Node], least: u32)
+        requires { Prepared search self.old table.old }
+        ensures { Dropped search table.old least self.new table.new }
+    {
+        if self.cover < least {
+            self.raise(search, table, least);
         }
-        None => hope,
+        self.drop_far(search, table, least);
     }
-}
 
-// The choice by the mark, where low is the given place.
-fn choose_by(
-    frontier: Frontier,
-    search: Search,
-    table: &mut [Node],
-    low: u32,
-    mark: u32,
-) -> (Frontier, u32)
-    requires { ChoosingBy search frontier table.old low }
-    ensures { ChosenBy search table.old mark result.0 result.1 table.new }
-{
-    match heap::head::<Hope, Node>(table, frontier.opened) {
-        Some(hope) => {
-            if is_within(search.bound, mark, hope.cost) {
-                let gathered = gather(frontier, search, table, hope.cost);
-                let place = near_or_hope(gathered, search, table, hope.place, mark);
-                (gathered, place)
-            } else {
-                (frontier, low)
-            }
-        }
-        None => (frontier, low),
+    // Near where it is within the mark, otherwise hope, which is.
+    fn near_or_hope(&self, search: Search, table: &[Node], hope: u32, mark: u32) -> u32
+        requires { NearReady search self.now table.now hope mark }
+        ensures { choice search mark (records table.now) ≡ Some result }
+    {
+        heap::head::<Near, Node>(table, self.nears)
+            .filter(|near| is_within(search.bound, mark, near.cost))
+            .map_or(hope, |near| near.place)
     }
-}
 
-// The choice by the low mark; none where nothing is open.
-pub fn choose(frontier: Frontier, search: Search, table: &mut [Node]) -> (Frontier, Option<Choice>)
-    requires { Choosing search frontier table.old }
-    ensures { Chosen search table.old result.0 result.1 table.new }
-{
-    match heap::head::<Low, Node>(table, frontier.opened) {
-        Some(low) => {
-            let picked = choose_by(frontier, search, table, low.place, low.cost);
-            (
-                picked.0,
-                Some(Choice {
-                    place: picked.1,
-                    mark: low.cost,
-                }),
-            )
-        }
-        None => (frontier, None),
+    // The choice by the mark, where low is the given place.
+    fn choose_by(&mut self, search: Search, table: &mut [Node], low: u32, mark: u32) -> u32
+        requires { ChoosingBy search self.old table.old low }
+        ensures { ChosenBy search table.old mark self.new result table.new }
+    {
+        let head = heap::head::<Hope, Node>(table, self.opened);
+        let Some(hope) = head.filter(|hope| is_within(search.bound, mark, hope.cost)) else {
+            return low;
+        };
+        self.gather(search, table, hope.cost);
+        self.near_or_hope(search, table, hope.place, mark)
+    }
+
+    // The choice by the low mark; none where nothing is open.
+    pub fn choose(&mut self, search: Search, table: &mut [Node]) -> Option<Choice>
+        requires { Choosing search self.old table.old }
+        ensures { Chosen search table.old self.new result table.new }
+    {
+        let low = heap::head::<Low, Node>(table, self.opened)?;
+        let place = self.choose_by(search, table, low.place, low.cost);
+        Some(Choice {
+            place,
+            mark: low.cost,
+        })
     }
 }

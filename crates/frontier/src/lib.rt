@@ -5,4 +5,5 @@ pub mod choose;
 pub mod ending;
 pub mod frontier;
 pub mod moves;
+mod side;
 pub mod start;

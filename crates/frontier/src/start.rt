@@ -1,74 +1,55 @@
 // The start of an advance: every open place is put on a side, and the far queue is built.
-ghost use Rattle.std.specs.Prelude.{◌≡◌, ℕ, ◌+◌, ◌&&◌, List, ◌==◌};
-ghost use Rattle.search_model.specs.Choice.{is_near};
-ghost use Rattle.search_model.specs.Fields.{RecordLimits};
-ghost use Rattle.search_model.specs.Records.{is_open};
+ghost use Rattle.std.specs.Prelude.{ℕ, ◌+◌, List};
 ghost use Rattle.table.specs.declared.node.Node.{Node as TableNode};
 ghost use Rattle.frontier.specs.Starting.{Seatable, Seating, Startable};
 ghost use Rattle.frontier.specs.Moves.{Rearranged};
 ghost use Rattle.table.specs.Table.{records, least_hope};
 
-use crate::frontier::{Frontier, open_now, want_far};
-use queue::entry::CostEntry;
+use crate::frontier::Frontier;
+use crate::side::{Side, want_far};
 use queue::indexed::Homed;
 use queue::order::Ranked;
 use queue::slot::Slot;
 use roster::update::update;
-use search_model::records::Record;
 use search_model::search::Search;
 use table::node::Node;
-use table::order::least_hope;
+use table::order::{Queued, least_hope};
 use table::seats::Far;
-use table::wanted::is_within;
+use table::wanted::is_near;
 
-// The side of a place: the near side if it is in the near set.
-fn side_for(search: Search, kept: Record, least: u32) -> u32
-    requires { RecordLimits kept }
-    ensures { (is_open kept && result == 1) ≡ is_near search least kept }
-{
-    if open_now(kept) {
-        if is_within(search.bound, least, kept.label + kept.hope) {
-            1
-        } else {
-            0
+impl Frontier {
+    // Puts one place on its side, and into the far queue if that is the far side.
+    fn seat_place(&mut self, search: Search, table: &mut [Node], place: u32)
+        requires { Seatable table.old place self.old.fars }
+        ensures { (least : ℕ) (t : List TableNode) → Seating search least t self.old place table.old → Seating search least t self.new (place + 1) table.new }
+    {
+        let old = table[place as usize];
+        let side = Side::near_if(is_near(search, self.cover, old.kept));
+        let new = Node {
+            side: side.number(),
+            ..old
+        };
+        table[place as usize] = new;
+        let wanted = want_far(new, place);
+        self.fars = update::<Far, Node>(table, self.fars, place as usize, false, wanted);
+    }
+
+    // Puts every open place on its side: the near set on the near side, the others on the far side, beyond the least f̂.
+    pub fn start(search: Search, queued: Queued, table: &mut [Node]) -> Frontier
+        requires { Startable search queued.opened queued.nears table.old }
+        ensures { Rearranged search table.old (least_hope (records table.old)) result table.new }
+    {
+        let Queued { opened, nears } = queued;
+        let cover = least_hope(table, opened);
+        let mut front = Frontier {
+            opened,
+            nears,
+            fars: 0,
+            cover,
+        };
+        for place in 0..table.len() {
+            front.seat_place(search, table, place as u32);
         }
-    } else {
-        0
-    }
-}
-
-// Puts one place on its side, and into the far queue if that is the far side.
-fn seat_place(search: Search, table: &mut [Node], place: u32, least: u32, fars: usize) -> usize
-    requires { Seatable table.old place fars }
-    ensures { (t : List TableNode) (opened nears : ℕ) → Seating search least t opened nears place fars table.old → Seating search least t opened nears (place + 1) result table.new }
-{
-    let old = table[place as usize];
-    let new = Node {
-        kept: old.kept,
-        low: old.low,
-        hope: old.hope,
-        near: old.near,
-        far: old.far,
-        side: side_for(search, old.kept, least),
-    };
-    table[place as usize] = new;
-    update::<Far, Node>(table, fars, place as usize, false, want_far(new, place))
-}
-
-// Puts every open place on its side: the near set on the near side, the others on the far side, beyond the least f̂.
-pub fn start(search: Search, opened: usize, nears: usize, table: &mut [Node]) -> Frontier
-    requires { Startable search opened nears table.old }
-    ensures { Rearranged search table.old (least_hope (records table.old)) result table.new }
-{
-    let least = least_hope(table, opened);
-    let mut fars = 0;
-    for place in 0..table.len() {
-        fars = seat_place(search, table, place as u32, least, fars);
-    }
-    Frontier {
-        opened: opened,
-        nears: nears,
-        fars: fars,
-        cover: least,
+        front
     }
 }

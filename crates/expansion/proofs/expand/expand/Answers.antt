@@ -7,18 +7,18 @@ use Rattle.expansion.proofs.expand.expand.Goals.{in-Some, in_default}
 pub bounds-table-place : goal.bounds-table-place
 bounds-table-place g c = place_on c.requires
 
-pub close-front-requires : goal.close-front-requires
-close-front-requires g c = can_close c.requires
+pub close-requires : goal.close-requires
+close-requires g c = can_close c.requires
 
-pub overflow_add-label : goal.overflow_add-label
-overflow_add-label g c =
+pub overflow_add-offered : goal.overflow_add-offered
+overflow_add-offered g c =
     let limits = (g.F.Floor.sound c.args.floor.now).limits in
     let cost = limits.costs c.args.place c.loop-number.number c.in-Some.leg (sym c.in-Some.ensures) in
     omega (arith, label_limit c.requires)
 
-pub offer-front-requires : goal.offer-front-requires
-offer-front-requires g c =
-    can_offer _ c.requires c.close-front.ensures c.loop-number.invariant
+pub offer-requires : goal.offer-requires
+offer-requires g c =
+    can_offer _ c.requires c.close.ensures c.loop-number.invariant
     (guided_sound _ _ (g.F.Floor.sound c.args.floor.now) (g.F.GuidedFloor.limited c.args.floor.now))
     c.in-Some.leg (sym c.in-Some.ensures)
 
@@ -26,12 +26,12 @@ pub loop-number-preserved : goal.loop-number-preserved
 loop-number-preserved g c =
     elim c.match-leg.branch [
       | in-Some w ↦
-          rw (w.front-is, w.table-is)
-          (spread_offered _ c.requires c.close-front.ensures c.loop-number.invariant
+          rw (w.frontier-is, w.table-is)
+          (spread_offered _ c.requires c.close.ensures c.loop-number.invariant
           (guided_sound _ _ (g.F.Floor.sound c.args.floor.now) (g.F.GuidedFloor.limited c.args.floor.now))
-          w.in-Some.leg (sym w.in-Some.ensures) w.offer-front.ensures)
-      | in_default w ↦ rw (w.front-is, w.table-is) (spread_barred c.loop-number.invariant (sym w.in_default.ensures))
+          w.in-Some.leg (sym w.in-Some.ensures) w.offer.ensures)
+      | in_default w ↦ rw (w.frontier-is, w.table-is) (spread_barred c.loop-number.invariant (sym w.in_default.ensures))
     ]
 
 pub returns : goal.returns
-returns g c = spread_all _ c.requires c.close-front.ensures c.loop-number.invariant (omega (arith, c.legs-number-end.ensures))
+returns g c = spread_all _ c.requires c.close.ensures c.loop-number.invariant (omega (arith, c.legs-number-end.ensures))

@@ -1,0 +1,8 @@
+use Rattle.frontier.specs.Moves.{Rearranged}
+use Rattle.frontier.proofs.frontier.Frontier.drop_far.Given as goal
+
+abbrev pub invariant-loop-place : goal.invariant-loop-place
+invariant-loop-place l = Rearranged l.search l.initial.table l.least l.self l.table
+
+abbrev pub decreases-loop-place : goal.decreases-loop-place
+decreases-loop-place l = l.self.nears

@@ -1,8 +1,0 @@
-use Rattle.frontier.proofs.Sides.{can_close, put_closed}
-use Rattle.frontier.proofs.moves.close.Goals as goal
-
-pub put_record-requires : goal.put_record-requires
-put_record-requires c = can_close c.requires
-
-pub returns : goal.returns
-returns c = put_closed c.put_record.ensures.put

@@ -1,8 +1,0 @@
-use Rattle.frontier.proofs.Sides.{can_move, moved}
-use Rattle.frontier.proofs.moves.move_place.Goals as goal
-
-pub put_record-requires : goal.put_record-requires
-put_record-requires c = can_move c.requires
-
-pub returns : goal.returns
-returns c = moved c.requires c.put_record.ensures

@@ -1,8 +1,0 @@
-use Rattle.frontier.specs.Moves.{Rearranged}
-use Rattle.frontier.proofs.moves.raise.Given as goal
-
-abbrev pub invariant-loop-place : goal.invariant-loop-place
-invariant-loop-place l = Rearranged l.search l.initial.table l.initial.front.cover l.front l.table
-
-abbrev pub decreases-loop-place : goal.decreases-loop-place
-decreases-loop-place l = l.front.fars
