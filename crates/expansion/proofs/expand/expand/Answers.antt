@@ -10,8 +10,8 @@ bounds-table-place g c = place_on c.requires
 pub close-requires : goal.close-requires
 close-requires g c = can_close c.requires
 
-pub overflow_add-offered : goal.overflow_add-offered
-overflow_add-offered g c =
+pub overflow_add-way : goal.overflow_add-way
+overflow_add-way g c =
     let limits = (g.F.Floor.sound c.args.floor.now).limits in
     let cost = limits.costs c.args.place c.loop-number.number c.in-Some.leg (sym c.in-Some.ensures) in
     omega (arith, label_limit c.requires)
