@@ -1,25 +1,18 @@
 -- Laws of the least nonzero and of the greatest byte.
-use Rattle.std.specs.Prelude.{◌≡◌, ℕ, zero, suc, ◌<◌, ◌≤◌, min, max, ◌⊎◌, List, [], ◌∷◌, fold, ◌==◌, ◌≢◌, slice_index, slice_index_or, refl}
+use Rattle.std.specs.Prelude.{◌≡◌, ℕ, zero, suc, ◌<◌, ◌≤◌, max, ◌⊎◌, List, [], ◌∷◌, fold, slice_index, refl}
 use Rattle.std.proofs.Common.{inl, inr, ⊎_elim, sym, ◌∙◌, arith}
-use Rattle.std.proofs.lemmas.Bool.{cases_eq, cases_lt, cond_both, eqb-true, eqb-false}
 use Rattle.floors.specs.Grid.{lesser_nonzero, least_nonzero, greatest}
 
 -- The lesser nonzero byte is none of the two where both are 0, and at most each that is not 0.
 pub lesser_parts : (a b : ℕ) → (0 < a → (0 < lesser_nonzero a b) × (lesser_nonzero a b ≤ a)) × (0 < b → (0 < lesser_nonzero a b) × (lesser_nonzero a b ≤ b))
-lesser_parts a b =
-    cond_both (b == 0) a _ (λ x. (0 < a → (0 < x) × (x ≤ a)) × (0 < b → (0 < x) × (x ≤ b)))
-    (λ e. let z : b ≡ 0 = eqb-true b 0 e in (λ h. (h, omega arith), λ h. absurd (omega arith)))
-    (λ e. cond_both (a == 0) b (min a b) (λ x. (0 < a → (0 < x) × (x ≤ a)) × (0 < b → (0 < x) × (x ≤ b)))
-    (λ f. let z : a ≡ 0 = eqb-true a 0 f in (λ h. absurd (omega arith), λ h. (h, omega arith)))
-    (λ f. (λ h. (omega (arith, eqb-false b 0 e), omega arith), λ h. (omega (arith, eqb-false a 0 f), omega arith))))
+lesser_parts a b = (λ h. (grind arith, grind arith), λ h. (grind arith, grind arith))
 
 -- A byte found stays an upper bound, whatever follows.
 least_stays : (a : ℕ) (xs : List ℕ) → 0 < a → (0 < fold lesser_nonzero a xs) × (fold lesser_nonzero a xs ≤ a)
 least_stays a [] some = (some, omega arith)
 least_stays a (x ∷ xs) some =
-    let now : (0 < lesser_nonzero a x) × (lesser_nonzero a x ≤ a) = (lesser_parts a x).0 some in
-    let later : (0 < fold lesser_nonzero (lesser_nonzero a x) xs) × (fold lesser_nonzero (lesser_nonzero a x) xs ≤ lesser_nonzero a x) =
-    least_stays (lesser_nonzero a x) xs now.0 in
+    let now = (lesser_parts a x).0 some in
+    let later = least_stays (lesser_nonzero a x) xs now.0 in
     (later.0, omega (arith, later.1, now.1))
 
 least_from : (a : ℕ) (xs : List ℕ) (i : ℕ) → 0 < slice_index xs i → (0 < fold lesser_nonzero a xs) × (fold lesser_nonzero a xs ≤ slice_index xs i)
@@ -52,15 +45,11 @@ pub least_is : (cells : List ℕ) → IsLeast cells (least_nonzero cells)
 least_is cells = record {
   below = λ i some. (least_from 0 cells i some).1;
   one_of = λ some. ⊎_elim (λ (start : least_nonzero cells ≡ 0). absurd (omega arith)) (λ found. found) (picked lesser_nonzero one 0 cells);
-  none = λ zero_least i. ⊎_elim (λ (e : slice_index_or cells i 0 ≡ 0). e) (λ (some : slice_index_or cells i 0 ≡ 0 → ⊥). absurd (omega (arith, (least_from 0 cells i (positive (slice_index cells i) some)).0))) (cases_eq (slice_index cells i) 0);
+  none = λ zero_least i. grind (arith, least_from 0 cells i);
 }
   where
     one : (a b : ℕ) → (lesser_nonzero a b ≡ a) ⊎ (lesser_nonzero a b ≡ b)
-    one a b = cond_both (b == 0) a _ (λ x. (x ≡ a) ⊎ (x ≡ b)) (λ _. inl refl) (λ _. cond_both (a == 0) b (min a b) (λ x. (x ≡ a) ⊎ (x ≡ b)) (λ _. inr refl)
-        (λ _. ⊎_elim (λ (h : a < b). inl (omega arith)) (λ (h : b ≤ a). inr (omega arith)) (cases_lt a b)))
-
-    positive : (n : ℕ) → (n ≢ 0) → 0 < n
-    positive n h = omega arith
+    one a b = grind arith
 
 -- The greatest byte: it is one of the bytes, or 0, and none is greater.
 pub record IsGreatest (cells : List ℕ) (m : ℕ) : Type 0 where
@@ -83,7 +72,7 @@ greatest_is cells = record {
 }
   where
     one : (a b : ℕ) → (max a b ≡ a) ⊎ (max a b ≡ b)
-    one a b = ⊎_elim (λ (h : a < b). inr (omega arith)) (λ (h : b ≤ a). inl (omega arith)) (cases_lt a b)
+    one a b = grind arith
 
 -- What is chosen from two bytes is one of them, so a fold of such choices is within a bound of all.
 fold_within : (pick : ℕ → ℕ → ℕ) (top : ℕ) → ((a b : ℕ) → a ≤ top → b ≤ top → pick a b ≤ top)
@@ -93,7 +82,7 @@ fold_within pick top kept a (x ∷ xs) start each = fold_within pick top kept (p
 
 pub least_within : (top : ℕ) (cells : List ℕ) → ((i : ℕ) → slice_index cells i ≤ top) → least_nonzero cells ≤ top
 least_within top cells each = fold_within lesser_nonzero top
-    (λ a b h k. cond_both (b == 0) a _ (λ x. x ≤ top) (λ _. h) (λ _. cond_both (a == 0) b (min a b) (λ x. x ≤ top) (λ _. k) (λ _. omega arith)))
+    (λ a b h k. grind arith)
     0 cells (omega arith) each
 
 pub greatest_within : (top : ℕ) (cells : List ℕ) → ((i : ℕ) → slice_index cells i ≤ top) → greatest cells ≤ top

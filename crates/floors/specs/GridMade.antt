@@ -12,10 +12,10 @@ use Rattle.floors.specs.Questions.{first_no, refusal}
 
 -- What a grid means, and its guesses.
 abbrev pub grid_meaning : Grid → Meaning
-grid_meaning g = grid_floor (vec_items g.cells) g.shape
+grid_meaning g = grid_floor (vec_items g.cells) g.frame.shape
 
 abbrev pub guesses_of : Grid → Guesses
-guesses_of g = grid_guesses (vec_items g.cells) g.shape
+guesses_of g = grid_guesses (vec_items g.cells) g.frame.shape
 
 pub record GridMade (s : GridShape) (cells : Vec ℕ Global) (r : Result Grid GridRefused) : Type 0 where
   -- the answer: the number of the first question answered no, if there is one

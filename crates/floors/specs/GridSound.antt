@@ -2,7 +2,8 @@
 use Rattle.std.specs.Prelude.{◌≡◌, ℕ, ◌+◌, ◌*◌, ◌/◌, ◌<◌, ◌≤◌, Bool, true, false, cond, List, length, Some, None, Option, ◌==◌, nat_lt, slice_index, slice_index_or, refl}
 use Rattle.std.proofs.Common.{sym, ap, ap₂, subst, ◌∙◌, mul_comm, mul-add, mul-one, mul-zero, mul-le-mul_left, arith}
 use Rattle.std.proofs.lemmas.Nat.{div_below, mod_below, mul-add-lt, div-mul-add, mod-mul-add, mul-le}
-use Rattle.std.proofs.lemmas.Bool.{cond-true, cond-false, cond_both, ltb-true, le-ltb, lt-ltb, eqb-true, eqb-false, ne_eqb}
+use Rattle.std.proofs.lemmas.Bool.{cond-true, cond-false, ltb-true, le-ltb, lt-ltb, eqb-true, eqb-false, ne_eqb}
+use Rattle.std.proofs.lemmas.Option.{cond_some}
 use Rattle.floors.specs.declared.leg.Leg.{Leg}
 use Rattle.floors.specs.declared.grid_shape.Direction.{Direction}
 use Rattle.floors.specs.declared.grid_shape.Direction.TheVariants.{North, East, South, West}
@@ -10,82 +11,69 @@ use Rattle.floors.specs.declared.grid_shape.GridShape.{GridShape}
 use Rattle.floors.specs.declared.grid_shape.Position.{Position}
 use Rattle.floors.specs.Bytes.{least_is, least_within, greatest_within}
 use Rattle.floors.specs.Consistent.{Consistent, consistent_admissible}
-use Rattle.floors.specs.Grid.{area, place_at, position, direction, neighbour, leg_into, leg_count, leg_of, least_nonzero, greatest, apart, distance, to_goal, low_of, grid_floor, grid_guesses}
+use Rattle.floors.specs.Grid.{area, place_at, position, direction, neighbour, leg_into, leg_count, leg_of, least_nonzero, greatest, distance, to_goal, low_of, grid_floor, grid_guesses}
 use Rattle.floors.specs.Guided.{Limited}
 use Rattle.floors.specs.Sound.{Limits, Outside, Sound, limit}
 
 -- Width and height are 1 to 64.
-abbrev pub Sides : GridShape → Type 0
-Sides s = (1 ≤ s.width) × (s.width ≤ 64) × (1 ≤ s.height) × (s.height ≤ 64)
+pub record Sides (s : GridShape) : Type 0 where
+  pub some_width : 1 ≤ s.width
+  pub width : s.width ≤ 64
+  pub some_height : 1 ≤ s.height
+  pub height : s.height ≤ 64
 
 -- A row and a column of the grid.
-abbrev pub OnGrid : GridShape → Position → Type 0
-OnGrid s at = (at.row < s.height) × (at.column < s.width)
+pub record OnGrid (s : GridShape) (at : Position) : Type 0 where
+  pub row : at.row < s.height
+  pub column : at.column < s.width
 
 -- The sides are in range, each cell has its byte, and the goal is a place.
-abbrev pub Formed : List ℕ → GridShape → Type 0
-Formed cells s = Sides s × ((length cells ≡ area s) × (s.goal < area s) × ((i : ℕ) → slice_index cells i ≤ 255))
-
--- The bytes that the estimates take from the cells.
-abbrev pub Ranged : List ℕ → ℕ → ℕ → Type 0
-Ranged cells least most = (least ≡ least_nonzero cells) × (most ≡ greatest cells) × (least ≤ 255) × (most ≤ 255)
+pub record Formed (cells : List ℕ) (s : GridShape) : Type 0 where
+  pub sides : Sides s
+  pub each_cell : length cells ≡ area s
+  pub goal : s.goal < area s
+  pub bytes : (i : ℕ) → slice_index cells i ≤ 255
 
 -- A place and its row and column determine each other.
 pub position_on : (s : GridShape) (p : ℕ) → Sides s → p < area s → OnGrid s (position s p)
 position_on s p sides on =
-    (div_below p s.width s.height sides.0 (omega (arith, mul_comm s.width s.height)), mod_below p s.width sides.0)
+    record { row = div_below p s.width s.height sides.some_width (omega (arith, mul_comm s.width s.height)); column = mod_below p s.width sides.some_width }
 
 pub place_on : (s : GridShape) (at : Position) → OnGrid s at → place_at s at < area s
-place_on s at on = mul-add-lt at.row s.width at.column s.height on.0 on.1
+place_on s at on = mul-add-lt at.row s.width at.column s.height on.row on.column
 
 position_back : (s : GridShape) (at : Position) → OnGrid s at → position s (place_at s at) ≡ at
 position_back s at on =
-    ap₂ (λ (x y : ℕ). record { row = x; column = y }) (div-mul-add at.row s.width at.column on.1) (mod-mul-add at.row s.width at.column on.1)
+    ap₂ (λ (x y : ℕ). record { row = x; column = y }) (div-mul-add at.row s.width at.column on.column) (mod-mul-add at.row s.width at.column on.column)
 
 -- Two places of a grid are at most 126 apart.
-apart_small : (a b top : ℕ) → a ≤ top → b ≤ top → apart a b ≤ top
-apart_small a b top h k = omega arith
-
 pub to_goal_small : (s : GridShape) (p : ℕ) → Sides s → s.goal < area s → p < area s → to_goal s p ≤ 126
 to_goal_small s p sides goal on =
     let a = position_on s p sides on in
     let b = position_on s s.goal sides goal in
-    omega (
-      arith,
-      apart_small (position s p).row (position s s.goal).row 63 (omega (arith, a.0, sides.3)) (omega (arith, b.0, sides.3)),
-      apart_small (position s p).column (position s s.goal).column 63 (omega (arith, a.1, sides.1)) (omega (arith, b.1, sides.1)),
-    )
+    omega (arith, a.row, a.column, b.row, b.column, sides.width, sides.height)
 
 -- A step stays on the grid and brings no goal nearer by more than 1.
-abbrev Near : GridShape → Position → Position → Position → Type 0
-Near s goal at next = OnGrid s next × (distance at goal ≤ 1 + distance next goal)
-
-apart_triangle : (a b g : ℕ) → apart a g ≤ apart a b + apart b g
-apart_triangle a b g = omega arith
+record Near (s : GridShape) (goal at next : Position) : Type 0 where
+  inside : OnGrid s next
+  gentle : distance at goal ≤ 1 + distance next goal
 
 one_step : (s : GridShape) (goal at next : Position) → OnGrid s next → distance at next ≤ 1 → Near s goal at next
-one_step s goal at next on short = (on, joined _ _ _ _ _ _ (apart_triangle at.row next.row goal.row) (apart_triangle at.column next.column goal.column) short)
-  where
-    joined : (x y a b u v : ℕ) → x ≤ a + u → y ≤ b + v → a + b ≤ 1 → x + y ≤ 1 + (u + v)
-    joined x y a b u v h k short = omega arith
-
-chosen : {A : Type 0} (t : Bool) (x y : A) → cond t (Some x) None ≡ Some y → (t ≡ true) × (x ≡ y)
-chosen true x y e = (refl, cc)
-chosen false x y e = let z : ◌≡◌ {A = ℕ} 0 1 = cc in absurd (omega arith)
+one_step s goal at next on short = record { inside = on; gentle = omega arith }
 
 neighbour_near : (s : GridShape) (goal at next : Position) (d : Direction) → OnGrid s at → neighbour s at d ≡ Some next → Near s goal at next
 neighbour_near s goal at next North on e =
-    let (test, same) = chosen (nat_lt 0 at.row) _ next e in
-    subst (Near s goal at) same (one_step s goal at _ (omega (arith, on.0), on.1) (omega arith))
+    let (test, same) = cond_some (nat_lt 0 at.row) _ next e in
+    subst (Near s goal at) same (one_step s goal at _ (record { row = omega (arith, on.row); column = on.column }) (omega arith))
 neighbour_near s goal at next East on e =
-    let (test, same) = chosen (nat_lt (at.column + 1) s.width) _ next e in
-    subst (Near s goal at) same (one_step s goal at _ (on.0, ltb-true _ _ test) (omega arith))
+    let (test, same) = cond_some (nat_lt (at.column + 1) s.width) _ next e in
+    subst (Near s goal at) same (one_step s goal at _ (record { row = on.row; column = ltb-true _ _ test }) (omega arith))
 neighbour_near s goal at next South on e =
-    let (test, same) = chosen (nat_lt (at.row + 1) s.height) _ next e in
-    subst (Near s goal at) same (one_step s goal at _ (ltb-true _ _ test, on.1) (omega arith))
+    let (test, same) = cond_some (nat_lt (at.row + 1) s.height) _ next e in
+    subst (Near s goal at) same (one_step s goal at _ (record { row = ltb-true _ _ test; column = on.column }) (omega arith))
 neighbour_near s goal at next West on e =
-    let (test, same) = chosen (nat_lt 0 at.column) _ next e in
-    subst (Near s goal at) same (one_step s goal at _ (on.0, omega (arith, on.1)) (omega arith))
+    let (test, same) = cond_some (nat_lt 0 at.column) _ next e in
+    subst (Near s goal at) same (one_step s goal at _ (record { row = on.row; column = omega (arith, on.column) }) (omega arith))
 
 -- What a usable leg from place p enters: a cell one step on, whose byte is not 0 and is the cost.
 record Entered (cells : List ℕ) (s : GridShape) (p : ℕ) (l : Leg) : Type 0 where
@@ -102,7 +90,7 @@ entered cells s p k l sides = listed (nat_lt k (leg_count s p)) refl
     into : (at : Position) → p < area s → Near s (position s s.goal) (position s p) at
         → (t : Bool) → (slice_index cells (place_at s at) == 0) ≡ t
         → cond t None (Some (record { target = place_at s at; cost = slice_index cells (place_at s at) })) ≡ Some l → Entered cells s p l
-    into at here near true test e = let z : ◌≡◌ {A = ℕ} 0 1 = cc in absurd (omega arith)
+    into at here near true test e = cc
     into at here near false test e =
         let same : record { target = place_at s at; cost = slice_index cells (place_at s at) } ≡ l = cc in
         let target : place_at s at ≡ l.target = ap (λ (x : Leg). x.target) same in
@@ -117,19 +105,17 @@ entered cells s p k l sides = listed (nat_lt k (leg_count s p)) refl
         }
 
     toward : p < area s → (o : Option Position) → neighbour s (position s p) (direction k) ≡ o → leg_into cells s o ≡ Some l → Entered cells s p l
-    toward here None is e = let z : ◌≡◌ {A = ℕ} 0 1 = cc in absurd (omega arith)
+    toward here None is e = cc
     toward here (Some at) is e =
         into at here (neighbour_near s (position s s.goal) (position s p) at (direction k) (position_on s p sides here) is)
         (slice_index cells (place_at s at) == 0) refl e
 
-    on : (t : Bool) → nat_lt p (area s) ≡ t → k < cond t 4 0 → p < area s
-    on true test below = ltb-true _ _ test
-    on false test below = absurd (omega arith)
-
     listed : (t : Bool) → nat_lt k (leg_count s p) ≡ t
         → cond t (leg_into cells s (neighbour s (position s p) (direction k))) None ≡ Some l → Entered cells s p l
-    listed true test e = toward (on (nat_lt p (area s)) refl (ltb-true _ _ test)) (neighbour s (position s p) (direction k)) refl e
-    listed false test e = let z : ◌≡◌ {A = ℕ} 0 1 = cc in absurd (omega arith)
+    listed true test e =
+        let here : p < area s = grind (arith, ltb-true _ _ test) in
+        toward here (neighbour s (position s p) (direction k)) refl e
+    listed false test e = cc
 
 -- Off the grid a value held by its area is its default.
 off : {A : Type 0} (p size : ℕ) (x y : A) → size ≤ p → cond (nat_lt p size) x y ≡ y
@@ -138,25 +124,24 @@ off p size x y h = cond-false (nat_lt p size) x y (le-ltb p size h)
 module _ (cells : List ℕ) (s : GridShape) (formed : Formed cells s) where
   -- an estimate that counts at most so much for each leg is within the limit
   estimate_small : (each p : ℕ) → each ≤ 255 → cond (nat_lt p (area s)) (each * to_goal s p) 0 ≤ limit
-  estimate_small each p small = cond_both (nat_lt p (area s)) (each * to_goal s p) 0 (λ x. x ≤ limit)
-      (λ e. omega (arith, mul-le each (to_goal s p) 255 126 small (to_goal_small s p formed.0 formed.1.1 (ltb-true _ _ e))))
-      (λ e. omega arith)
+  estimate_small each p small =
+      grind (arith, λ (on : p < area s). mul-le each (to_goal s p) 255 126 small (to_goal_small s p formed.sides formed.goal on))
 
   grid_limits : Limits (grid_floor cells s)
   grid_limits = record {
-    some_place = mul-le 1 1 s.width s.height formed.0.0 formed.0.2;
-    few_places = mul-le s.width s.height 64 64 formed.0.1 formed.0.3;
-    few_legs = λ p. cond_both (nat_lt p (area s)) 4 0 (λ n. n ≤ 65535) (λ _. omega arith) (λ _. omega arith);
-    targets = λ p k l e. let x = entered cells s p k l formed.0 e in subst (λ q. q < area s) x.target (place_on s x.at x.near.0);
-    costs = λ p k l e. omega (arith, (entered cells s p k l formed.0 e).cost, formed.1.2 l.target);
-    lows = λ p. estimate_small (least_nonzero cells) p (least_within 255 cells formed.1.2);
+    some_place = mul-le 1 1 s.width s.height formed.sides.some_width formed.sides.some_height;
+    few_places = mul-le s.width s.height 64 64 formed.sides.width formed.sides.height;
+    few_legs = λ p. grind arith;
+    targets = λ p k l e. let x = entered cells s p k l formed.sides e in subst (λ q. q < area s) x.target (place_on s x.at x.near.inside);
+    costs = λ p k l e. omega (arith, (entered cells s p k l formed.sides e).cost, formed.bytes l.target);
+    lows = λ p. estimate_small (least_nonzero cells) p (least_within 255 cells formed.bytes);
   }
 
   grid_outside : Outside (grid_floor cells s)
   grid_outside = record {
     no_legs = λ p h. off p (area s) _ _ h;
     past_list = λ p k h. off k (leg_count s p) _ _ h;
-    no_goal = λ p h. ne_eqb p s.goal (λ same. omega (arith, formed.1.1));
+    no_goal = λ p h. ne_eqb p s.goal (λ same. omega (arith, formed.goal));
     no_low = λ p h. off p (area s) _ _ h;
   }
 
@@ -167,7 +152,7 @@ module _ (cells : List ℕ) (s : GridShape) (formed : Formed cells s) where
   goal_zero p e =
       let same : s.goal ≡ p = sym (eqb-true p s.goal e) in
       subst (λ q. low_of cells s q ≡ 0) same
-      (low_is s.goal formed.1.1 ∙ ap (λ d. least_nonzero cells * d) (none (position s s.goal)) ∙ mul-zero (least_nonzero cells))
+      (low_is s.goal formed.goal ∙ ap (λ d. least_nonzero cells * d) (none (position s s.goal)) ∙ mul-zero (least_nonzero cells))
     where
       none : (at : Position) → distance at at ≡ 0
       none at = omega arith
@@ -175,13 +160,13 @@ module _ (cells : List ℕ) (s : GridShape) (formed : Formed cells s) where
   -- a leg costs at least the least nonzero byte, and brings the goal nearer by at most 1
   leg_gentle : (p k : ℕ) (l : Leg) → leg_of cells s p k ≡ Some l → low_of cells s p ≤ l.cost + low_of cells s l.target
   leg_gentle p k l e =
-      let x = entered cells s p k l formed.0 e in
+      let x = entered cells s p k l formed.sides e in
       let m : ℕ = least_nonzero cells in
-      let inside : l.target < area s = subst (λ q. q < area s) x.target (place_on s x.at x.near.0) in
+      let inside : l.target < area s = subst (λ q. q < area s) x.target (place_on s x.at x.near.inside) in
       let there : to_goal s l.target ≡ distance x.at (position s s.goal) =
-      ap (λ q. distance q (position s s.goal)) (ap (position s) (sym x.target) ∙ position_back s x.at x.near.0) in
+      ap (λ q. distance q (position s s.goal)) (ap (position s) (sym x.target) ∙ position_back s x.at x.near.inside) in
       let least : m ≤ l.cost = subst (λ c. m ≤ c) x.cost ((least_is cells).below l.target (subst (λ c. 0 < c) (sym x.cost) x.some)) in
-      let step : to_goal s p ≤ 1 + to_goal s l.target = subst (λ d. to_goal s p ≤ 1 + d) (sym there) x.near.1 in
+      let step : to_goal s p ≤ 1 + to_goal s l.target = subst (λ d. to_goal s p ≤ 1 + d) (sym there) x.near.gentle in
       let more : m * to_goal s p ≤ m * (1 + to_goal s l.target) = mul-le-mul_left m step in
       rw (low_is p x.here, low_is l.target inside)
       (omega (arith, more, mul-add m 1 (to_goal s l.target), mul-one m, least))
@@ -198,10 +183,9 @@ grid_sound cells s formed = record {
 
 pub grid_limited : (cells : List ℕ) (s : GridShape) → Formed cells s → Limited (grid_guesses cells s)
 grid_limited cells s formed =
-    let least : least_nonzero cells ≤ 255 = least_within 255 cells formed.1.2 in
-    let most : greatest cells ≤ 255 = greatest_within 255 cells formed.1.2 in
+    let least : least_nonzero cells ≤ 255 = least_within 255 cells formed.bytes in
+    let most : greatest cells ≤ 255 = greatest_within 255 cells formed.bytes in
     record {
       hopes = λ p. estimate_small cells s formed ((least_nonzero cells + greatest cells) / 2) p (omega arith);
-      step_counts = λ p. cond_both (nat_lt p (area s)) (to_goal s p) 0 (λ x. x ≤ limit)
-          (λ e. omega (arith, to_goal_small s p formed.0 formed.1.1 (ltb-true _ _ e))) (λ e. omega arith);
+      step_counts = λ p. grind (arith, to_goal_small s p formed.sides formed.goal);
     }

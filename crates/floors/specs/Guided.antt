@@ -1,5 +1,5 @@
 -- What a guided floor means.
-use Rattle.std.specs.Prelude.{ℕ, ◌≤◌, Bool, true, false, cond, nat_lt}
+use Rattle.std.specs.Prelude.{ℕ, ◌≤◌, cond, nat_lt}
 use Rattle.std.proofs.Common.{arith}
 use Rattle.floors.specs.Meaning.{Meaning}
 use Rattle.floors.specs.Sound.{Sound, limit}
@@ -45,10 +45,6 @@ pub record SoundGuided (g : Guided) : Type 0 where
 pub guided_sound : (m : Meaning) (g : Guesses) → Sound m → Limited g → SoundGuided (guided m g)
 guided_sound m g s l = record {
   floor = s;
-  hopes = λ p. within (nat_lt p m.size) (g.hope p) (l.hopes p);
-  step_counts = λ p. within (nat_lt p m.size) (g.steps p) (l.step_counts p);
+  hopes = λ p. grind (arith, l.hopes p);
+  step_counts = λ p. grind (arith, l.step_counts p);
 }
-  where
-    within : (b : Bool) (n : ℕ) → n ≤ limit → cond b n 0 ≤ limit
-    within true n h = h
-    within false n h = omega arith

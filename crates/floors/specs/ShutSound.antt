@@ -1,20 +1,16 @@
 -- Over a sound floor the shut floor is sound.
-use Rattle.std.specs.Prelude.{◌≡◌, ℕ, Bool, true, false, cond, List, Some, None, Option, refl}
+use Rattle.std.specs.Prelude.{◌≡◌, Bool, List, Some, None, Option, refl}
 use Rattle.std.proofs.Common.{ap, le_refl, arith}
 use Rattle.floors.specs.declared.leg.Leg.{Leg}
 use Rattle.floors.specs.Meaning.{Meaning}
-use Rattle.floors.specs.Shut.{contains, unless_shut, shut_floor}
+use Rattle.floors.specs.Shut.{unless_shut, shut_floor}
 use Rattle.floors.specs.Sound.{Sound}
 use Rattle.floors.specs.Transfer.{FloorMap, law_transfers}
 
 -- A leg that is usable above is the same leg below.
 usable_below : (flags : List Bool) (o : Option Leg) (l : Leg) → unless_shut flags o ≡ Some l → o ≡ Some l
 usable_below flags None l e = e
-usable_below flags (Some x) l e = open_leg (contains flags x.target) e
-  where
-    open_leg : (b : Bool) → cond b None (Some x) ≡ Some l → Some x ≡ Some l
-    open_leg true f = let z : ◌≡◌ {A = ℕ} 0 1 = cc in absurd (omega arith)
-    open_leg false f = f
+usable_below flags (Some x) l e = grind arith
 
 module _ (flags : List Bool) (m : Meaning) where
   -- the places of the shut floor are those below

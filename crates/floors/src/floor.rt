@@ -34,6 +34,7 @@ pub trait Floor {
 }
 
 // A borrowed floor is a floor.
+// Stays: each method is passed on by name, since no macro of the repository may write an impl and Rust has no shorter form.
 impl<F: Floor> Floor for &F {
     ghost meaning = { λ f. F.meaning f.now };
 

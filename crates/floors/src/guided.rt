@@ -1,6 +1,6 @@
 // A floor that also offers two guesses for each place.
 ghost use Rattle.std.specs.Prelude.{◌≡◌};
-ghost use Rattle.floors.specs.Guided.{Guesses, Limited, guided};
+ghost use Rattle.floors.specs.Guided.{Guesses, Limited, described};
 
 use crate::floor::Floor;
 
@@ -12,14 +12,15 @@ pub trait GuidedFloor: Floor {
 
     // The guessed cost to go.
     fn hope(&self, place: u32) -> u32
-        ensures { result ≡ (guided (Self.meaning self.now) (guesses self.now)).hope place };
+        ensures { result ≡ (described Self.GuidedFloor self.now).hope place };
 
     // The guessed number of legs to go.
     fn steps(&self, place: u32) -> u32
-        ensures { result ≡ (guided (Self.meaning self.now) (guesses self.now)).steps place };
+        ensures { result ≡ (described Self.GuidedFloor self.now).steps place };
 }
 
 // A borrowed guided floor is a guided floor.
+// Stays: each method is passed on by name, as for a floor.
 impl<F: GuidedFloor> GuidedFloor for &F {
     ghost guesses = { λ f. F.guesses f.now };
 

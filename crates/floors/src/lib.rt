@@ -5,7 +5,7 @@ pub mod floor;
 pub mod grid;
 mod grid_cells;
 pub mod grid_fault;
-mod grid_new;
+mod grid_frame;
 pub mod grid_sample;
 mod grid_shape;
 pub mod guided;

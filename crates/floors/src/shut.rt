@@ -22,7 +22,7 @@ impl<F> Shut<F> {
     // The floor with no place shut.
     pub fn new(floor: F) -> Shut<F>
         ensures floor { result.floor ≡ floor }
-        ensures places { result.places.flags ≡ no_places }
+        ensures places { result.places ≡ no_places }
     {
         Shut {
             floor,
@@ -40,14 +40,14 @@ impl<F> Shut<F> {
 
     // Whether the place is shut.
     pub fn is_shut(&self, place: u32) -> bool
-        ensures { result ≡ contains self.now.places.flags place }
+        ensures { result ≡ contains self.now.places place }
     {
         self.places.contains(place)
     }
 
     // How many places are shut.
     pub fn count(&self) -> u32
-        ensures { result ≡ members self.now.places.flags }
+        ensures { result ≡ members self.now.places }
     {
         self.places.count()
     }
@@ -63,7 +63,7 @@ impl<F: Floor> Shut<F> {
 
     // The questions of `shut`.
     fn ask_shut(&self, place: u32) -> Result<(), ShutFault>
-        ensures { refusal shut_number result ≡ first_no (shut_questions (F.meaning self.now.floor).size self.now.places.flags place) }
+        ensures { refusal shut_number result ≡ first_no (shut_questions (F.meaning self.now.floor).size self.now.places place) }
     {
         if !self.is_place(place) {
             return Err(ShutFault::NoPlace);
@@ -79,7 +79,7 @@ impl<F: Floor> Shut<F> {
 
     // The questions of `unshut`.
     fn ask_unshut(&self, place: u32) -> Result<(), ShutFault>
-        ensures { refusal shut_number result ≡ first_no (unshut_questions (F.meaning self.now.floor).size self.now.places.flags place) }
+        ensures { refusal shut_number result ≡ first_no (unshut_questions (F.meaning self.now.floor).size self.now.places place) }
     {
         if !self.is_place(place) {
             return Err(ShutFault::NoPlace);
@@ -92,8 +92,8 @@ impl<F: Floor> Shut<F> {
 
     // Bars every leg into the place.
     pub fn shut(&mut self, place: u32) -> Result<(), ShutFault>
-        ensures answer { refusal shut_number result ≡ first_no (shut_questions (F.meaning self.old.floor).size self.old.places.flags place) }
-        ensures places { self.new.places.flags ≡ after_shut (F.meaning self.old.floor).size self.old.places.flags place }
+        ensures answer { refusal shut_number result ≡ first_no (shut_questions (F.meaning self.old.floor).size self.old.places place) }
+        ensures places { self.new.places ≡ after_shut (F.meaning self.old.floor).size self.old.places place }
         ensures floor { self.new.floor ≡ self.old.floor }
     {
         self.ask_shut(place)?;
@@ -103,8 +103,8 @@ impl<F: Floor> Shut<F> {
 
     // Lets legs into the place again.
     pub fn unshut(&mut self, place: u32) -> Result<(), ShutFault>
-        ensures answer { refusal shut_number result ≡ first_no (unshut_questions (F.meaning self.old.floor).size self.old.places.flags place) }
-        ensures places { self.new.places.flags ≡ after_unshut (F.meaning self.old.floor).size self.old.places.flags place }
+        ensures answer { refusal shut_number result ≡ first_no (unshut_questions (F.meaning self.old.floor).size self.old.places place) }
+        ensures places { self.new.places ≡ after_unshut (F.meaning self.old.floor).size self.old.places place }
         ensures floor { self.new.floor ≡ self.old.floor }
     {
         self.ask_unshut(place)?;
@@ -114,9 +114,9 @@ impl<F: Floor> Shut<F> {
 }
 
 impl<F: Floor> Floor for Shut<F> {
-    ghost meaning = { λ s. shut_floor s.places.flags (F.meaning s.floor) };
+    ghost meaning = { λ s. shut_floor s.places (F.meaning s.floor) };
 
-    ghost sound = { λ s. shut_sound s.places.flags (F.meaning s.floor) (F.sound s.floor) };
+    ghost sound = { λ s. shut_sound s.places (F.meaning s.floor) (F.sound s.floor) };
 
     fn places(&self) -> u32 {
         self.floor.places()

@@ -3,7 +3,6 @@ use floors::floor::Floor;
 use floors::grid::Grid;
 use floors::guided::GuidedFloor;
 use floors::leg::Leg;
-use floors::shut::Shut;
 use floors::shut_fault::ShutFault;
 use std::alloc::Global;
 use std::process::Abort;
@@ -12,38 +11,23 @@ use std::test::Fail;
 // Three by three cells, of bytes 1 to 9.
 pub const NINE: [u8; 9] = [1, 2, 3, 4, 5, 6, 7, 8, 9];
 
+// A grid as it is asked for: its width, height, cells and goal.
+pub(crate) type Asked<'a> = (u32, u32, &'a [u8], u32);
+
 // The grid of these cells.
-pub(crate) fn grid(
-    heap: Global,
-    width: u32,
-    height: u32,
-    cells: &[u8],
-    goal: u32,
-) -> Result<Grid, Fail> {
-    match Grid::new(width, height, cells.to_vec(heap)?, goal) {
-        Ok(grid) => Ok(grid),
-        Err(_) => Err(Fail::new("refused")),
-    }
+pub(crate) fn grid(heap: Global, (width, height, cells, goal): Asked) -> Result<Grid, Fail> {
+    Grid::new(width, height, cells.to_vec(heap)?, goal).map_err(|_| Fail::new("refused"))
 }
 
-// The grid is refused by that question, and its cells come back.
-pub(crate) fn refuses(
-    rt: &impl Abort,
-    heap: Global,
-    width: u32,
-    height: u32,
-    cells: &[u8],
-    goal: u32,
-    number: u32,
-) -> Result<(), Fail> {
-    match Grid::new(width, height, cells.to_vec(heap)?, goal) {
-        Ok(_) => Err(Fail::new("accepted")),
-        Err(refused) => {
-            assert_eq!(rt; refused.fault.number(), number);
-            assert!(rt; refused.cells.as_slice() == cells);
-            Ok(())
-        }
+// Each grid is refused by the question of that number, and its cells come back.
+pub(crate) fn refuses(rt: &impl Abort, heap: Global, cases: &[(u32, Asked)]) -> Result<(), Fail> {
+    for (number, (width, height, cells, goal)) in cases {
+        let answer = Grid::new(*width, *height, cells.to_vec(heap)?, *goal);
+        let refused = answer.err().ok_or("accepted")?;
+        assert_eq!(rt; refused.fault.number(), *number);
+        assert!(rt; refused.cells.as_slice() == *cells);
     }
+    Ok(())
 }
 
 // A usable leg with that target and cost.
@@ -53,8 +37,8 @@ pub(crate) fn to(target: u32, cost: u32) -> Option<Leg> {
 
 // The first four legs of the place.
 pub(crate) fn legs_are<F: Floor>(rt: &impl Abort, floor: &F, place: u32, legs: [Option<Leg>; 4]) {
-    for number in 0..4 {
-        assert_eq!(rt; floor.leg(place, number), legs[number as usize]);
+    for (number, leg) in (0..4).zip(legs) {
+        assert_eq!(rt; floor.leg(place, number), leg);
     }
 }
 
@@ -63,35 +47,13 @@ pub(crate) fn estimates_are<F: GuidedFloor>(
     rt: &impl Abort,
     floor: &F,
     place: u32,
-    low: u32,
-    hope: u32,
-    steps: u32,
+    estimates: (u32, u32, u32),
 ) {
-    assert_eq!(rt; floor.low(place), low);
-    assert_eq!(rt; floor.hope(place), hope);
-    assert_eq!(rt; floor.steps(place), steps);
+    let found = (floor.low(place), floor.hope(place), floor.steps(place));
+    assert_eq!(rt; found, estimates);
 }
 
-// The number of the question answered no, or 0.
-fn number(answer: Result<(), ShutFault>) -> u32 {
-    match answer {
-        Ok(()) => 0,
-        Err(fault) => fault.number(),
-    }
-}
-
-// Shuts the place: accepted if the number is 0, else refused by that question.
-pub(crate) fn shuts<F: Floor>(
-    rt: &impl Abort,
-    floor: &mut Shut<F>,
-    place: u32,
-    expected: u32,
-) -> Result<(), Fail> {
-    assert_eq!(rt; number(floor.shut(place)), expected);
-    Ok(())
-}
-
-// Unshuts the place: accepted if the number is 0, else refused by that question.
-pub(crate) fn unshuts<F: Floor>(rt: &impl Abort, floor: &mut Shut<F>, place: u32, expected: u32) {
-    assert_eq!(rt; number(floor.unshut(place)), expected);
+// The call is accepted if the number is 0, else refused by that question.
+pub(crate) fn answers(rt: &impl Abort, answer: Result<(), ShutFault>, number: u32) {
+    assert_eq!(rt; answer.err().map_or(0, |fault| fault.number()), number);
 }
