@@ -16,7 +16,7 @@ use Rattle.table.specs.declared.node.Node.{Node}
 use Rattle.frontier.specs.Frontier.{Prepared, RecordPut}
 use Rattle.frontier.specs.Moves.{Closing}
 use Rattle.table.specs.Table.{records}
-use Rattle.frontier.proofs.Putting.{node_at}
+use Rattle.frontier.proofs.Nodes.{node_at}
 use Rattle.table.proofs.OrderAsked.{records_at}
 use Rattle.expansion.specs.Expanding.{Offerable, Offered, Expandable, Expanded}
 

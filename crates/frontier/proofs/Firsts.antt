@@ -30,8 +30,10 @@ use Rattle.table.specs.Order.{cost_place, near_place_of}
 use Rattle.table.specs.Seats.{low_entry, low_note, hope_entry, hope_note, near_entry, near_note}
 use Rattle.frontier.proofs.Chains.{filter_some, filter_none}
 use Rattle.table.specs.Table.{records, open_entry, low_wanted, hope_wanted, near_entry_of}
-use Rattle.frontier.proofs.Putting.{node_at, no_node}
-use Rattle.frontier.proofs.Reading.{kept_at, wants, wanted_here, cost_before}
+use Rattle.table.specs.Fresh.{blank_node}
+use Rattle.table.proofs.OrderAsked.{records_at, open_some, some_open}
+use Rattle.frontier.proofs.Nodes.{node_at}
+use Rattle.frontier.proofs.Reading.{wants, wanted_here, cost_before}
 
 -- an open place is on the table
 on_table : (t : List Node) (q : ℕ) → Open (records t) q → q < length t
@@ -39,30 +41,18 @@ on_table t q o = omega (arith, seen_on (records t) q (omega arith), length-map t
 
 -- Queues of every open place by a key.
 module _ (key : Record → ℕ) (t : List Node) where
-  abbrev open_node : Node → Bool
-  open_node n = is_open n.kept
-
-  abbrev made : Node → ℕ → CostEntry
-  made n p = record { cost = key n.kept; place = p }
-
-  here : (q : ℕ) → Open (records t) q → expected_in (open_entry key) t q ≡ Some (made (node_at t q) q)
-  here q o = wanted_here open_node made t q (on_table t q o) (subst (λ (r : Record). is_open r ≡ true) (sym (kept_at t q)) (eq-eqb (at (records t) q).mark 1 o))
-
-  pub nothing_open : LeastExpected cost_at_most cost_place (expected_in (open_entry key) t) None → (q : ℕ) → Open (records t) q → ⊥
-  nothing_open L q o = none_some (expected_in (open_entry key) t q) _ (L q) (here q o)
+  nothing_open : LeastExpected cost_at_most cost_place (expected_in (open_entry key) t) None → (q : ℕ) → Open (records t) q → ⊥
+  nothing_open L q o = none_some _ _ (L q) (open_some key t q o)
 
   module _ (e : CostEntry) (L : LeastExpected cost_at_most cost_place (expected_in (open_entry key) t) (Some e)) where
-    pub head_opened : Open (records t) e.place
-    head_opened =
-        eqb-true (at (records t) e.place).mark 1 (subst (λ (r : Record). is_open r ≡ true) (kept_at t e.place) (wants open_node made t e.place e L.0).1)
+    head_opened : Open (records t) e.place
+    head_opened = (some_open key t e.place e L.0).0
 
-    pub head_cost : key (at (records t) e.place) ≡ e.cost
-    head_cost = ap key (sym (kept_at t e.place)) ∙ ap (λ (x : CostEntry). x.cost) (wants open_node made t e.place e L.0).2
+    head_cost : key (at (records t) e.place) ≡ e.cost
+    head_cost = sym (ap (λ (x : CostEntry). x.cost) (some_open key t e.place e L.0).1)
 
-    pub head_first : (q : ℕ) → Open (records t) q → Before (key (at (records t) e.place)) e.place (key (at (records t) q)) q
-    head_first q o =
-        subst (λ (k : ℕ). Before k e.place (key (at (records t) q)) q) (sym head_cost)
-        (subst (λ (r : Record). Before e.cost e.place (key r) q) (kept_at t q) (cost_before e (made (node_at t q) q) (L.1 q (made (node_at t q) q) (here q o))))
+    head_first : (q : ℕ) → Open (records t) q → Before (key (at (records t) e.place)) e.place (key (at (records t) q)) q
+    head_first q o = subst (λ (k : ℕ). Before k e.place (key (at (records t) q)) q) (sym head_cost) (cost_before e _ (L.1 q _ (open_some key t q o)))
 
 -- What the head of the low queue says.
 module _ {s : Search} {fr : Frontier} {t : List Node} (P : Prepared s fr t) (o : Option CostEntry) (H : Head cost_at_most fr.opened (entries low_entry fr.opened t) o) where
@@ -124,18 +114,18 @@ module _ {s : Search} {fr : Frontier} {t : List Node} {hope mark : ℕ} (N : Nea
       on = on_table t q n.opened
 
       opened : is_open (node_at t q).kept ≡ true
-      opened = subst (λ (r : Record). is_open r ≡ true) (sym (kept_at t q)) (eq-eqb (at rs q).mark 1 n.opened)
+      opened = subst (λ (r : Record). is_open r ≡ true) (records_at t q) (eq-eqb (at rs q).mark 1 n.opened)
 
       close : within s fr.cover (node_at t q).kept ≡ true
       close =
           subst (λ (c : ℕ). within s c (node_at t q).kept ≡ true) (sym N.covers)
-          (subst (λ (r : Record). within s least r ≡ true) (sym (kept_at t q)) (le-leb (s.bound.b * f_hat (at rs q)) (s.bound.a * least) n.close))
+          (subst (λ (r : Record). within s least r ≡ true) (records_at t q) (le-leb (s.bound.b * f_hat (at rs q)) (s.bound.a * least) n.close))
 
       sided : eqb (node_at t q).side 1 ≡ true
       sided = ⊎_elim
           (λ x. x)
           (λ x. absurd (both_ways (within s fr.cover (node_at t q).kept)
-          (N.choosing.prepared.ready.covered no_node q on (and_from (is_open (node_at t q).kept) (not (eqb (node_at t q).side 1)) opened (not_from_false (eqb (node_at t q).side 1) x))) close))
+          (N.choosing.prepared.ready.covered blank_node q on (and_from (is_open (node_at t q).kept) (not (eqb (node_at t q).side 1)) opened (not_from_false (eqb (node_at t q).side 1) x))) close))
           (cases_Bool (eqb (node_at t q).side 1))
 
   hope_near : Near s rs least hope
@@ -158,14 +148,14 @@ module _ {s : Search} {fr : Frontier} {t : List Node} {hope mark : ℕ} (N : Nea
             (same_cost x e (near_before x e (M.1 e.place e L.0)) (near_before e x (L.1 x.place x M.0))) c
 
     pub near_cost : f_hat (at rs e.place) ≡ e.cost
-    near_cost = ap f_hat (sym (kept_at t e.place)) ∙ ap (λ (x : NearEntry). x.cost) entry_is
+    near_cost = ap f_hat (records_at t e.place) ∙ ap (λ (x : NearEntry). x.cost) entry_is
 
     near_steps : rank s (at rs e.place) ≡ e.steps
-    near_steps = ap (rank s) (sym (kept_at t e.place)) ∙ ap (λ (x : NearEntry). x.steps) entry_is
+    near_steps = ap (rank s) (records_at t e.place) ∙ ap (λ (x : NearEntry). x.steps) entry_is
 
     head_near : Near s rs least e.place
     head_near = record {
-      opened = eqb-true (at rs e.place).mark 1 (subst (λ (r : Record). is_open r ≡ true) (kept_at t e.place)
+      opened = eqb-true (at rs e.place).mark 1 (subst (λ (r : Record). is_open r ≡ true) (sym (records_at t e.place))
           (and_parts (is_open (node_at t e.place).kept) (eqb (node_at t e.place).side 1) (wants near_side (near_entry_of s) t e.place e L.0).1).0);
       close = subst (λ (k : ℕ). s.bound.b * k ≤ s.bound.a * least) (sym near_cost) (leb-true (s.bound.b * e.cost) (s.bound.a * least) head_close);
     }
@@ -175,7 +165,7 @@ module _ {s : Search} {fr : Frontier} {t : List Node} {hope mark : ℕ} (N : Nea
         let b = near_before e (near_entry_of s (node_at t q) q) (L.1 q (near_entry_of s (node_at t q) q) (near_there q n)) in
         subst (λ (k : ℕ). (k < rank s (at rs q)) ⊎ ((k ≡ rank s (at rs q)) × Before (f_hat (at rs e.place)) e.place (f_hat (at rs q)) q)) (sym near_steps)
         (subst (λ (k : ℕ). (e.steps < rank s (at rs q)) ⊎ ((e.steps ≡ rank s (at rs q)) × Before k e.place (f_hat (at rs q)) q)) (sym near_cost)
-        (subst (λ (r : Record). (e.steps < rank s r) ⊎ ((e.steps ≡ rank s r) × Before e.cost e.place (f_hat r) q)) (kept_at t q) b))
+        (subst (λ (r : Record). (e.steps < rank s r) ⊎ ((e.steps ≡ rank s r) × Before e.cost e.place (f_hat r) q)) (sym (records_at t q)) b))
 
     pub near_first : near_place s rs ≡ Some e.place
     near_first = near_is s rs hope e.place N.is_hope head_near before

@@ -1,4 +1,5 @@
 pub mod Chains
+pub mod Nodes
 pub mod Requeue
 pub mod Putting
 pub mod Reading

@@ -1,17 +1,16 @@
 -- A place is given another record and side: what each queue holds before, between and after the updates.
-use Rattle.std.proofs.Common.{◌≡◌, ℕ, ◌<◌, ◌≤◌, Bool, true, false, cond, List, map, length, get_or, set, is_some, Some, None, Option, sym, ap, ◌∙◌, subst, ⊎_elim, arith, length-set, get_or-set_other, get_or-set_same}
+use Rattle.std.proofs.Common.{◌≡◌, ℕ, ◌<◌, ◌≤◌, Bool, true, false, List, map, length, get_or, set, is_some, Option, sym, ap, ◌∙◌, subst, ⊎_elim, arith, length-set, get_or-set_other, get_or-set_same}
 use mathlib.Core.List.{map-map}
 use lib.Seq.{map-set}
 use Rattle.std.proofs.lemmas.List.{length-map}
 use Rattle.std.proofs.lemmas.Bool.{cases_eq}
 use Rattle.roster.specs.Check.{expected_in}
 use Rattle.roster.specs.Holds.{Holds, put}
-use Rattle.roster.specs.Update.{Updatable}
+use Rattle.roster.specs.Update.{Updatable, QueueOnly, updated_count}
 use Rattle.roster.proofs.Changing.{expected_set, expected_kept, some_if, if_some}
-use Rattle.roster.proofs.Wishes.{expected_read}
 use Rattle.roster.proofs.Holding.{holds_same}
-use Rattle.roster.proofs.Keeping.{kept_part}
-use Rattle.roster.proofs.Updating.{Updated}
+use Rattle.roster.proofs.Keeping.{kept_part, holds_set}
+use Rattle.roster.proofs.Updating.{Updated, holds_kept_only}
 use Rattle.search_model.specs.declared.records.Record.{Record}
 use Rattle.search_model.specs.declared.search.Search.{Search}
 use Rattle.search_model.specs.Choice.{within}
@@ -20,59 +19,84 @@ use Rattle.search_model.specs.Records.{at}
 use Rattle.search_model.proofs.Table.{changed, changed_keeps}
 use Rattle.frontier.specs.declared.frontier.Frontier.{Frontier}
 use Rattle.table.specs.declared.node.Node.{Node}
-use Rattle.frontier.specs.Frontier.{Puttable, with_kept, far_side}
+use Rattle.frontier.specs.Frontier.{Puttable, with_kept, counted_by, far_side}
+use Rattle.table.specs.Fresh.{blank_node}
 use Rattle.table.specs.Table.{records}
+use Rattle.table.proofs.OrderAsked.{expected_at}
+use Rattle.frontier.proofs.Nodes.{node_at, renewed, written, face, faced, want_if}
 
--- What expectations read of a node, and a node that has it.
-abbrev pub face : Node → Record × ℕ
-face n = (n.kept, n.side)
+-- A queue of the places that pass a test: its order, its entries and notes in the nodes, and the entry of a place, which names the place and reads
+-- only the node's face. A node with another record and side keeps entry and note.
+pub record Kind (E : Type 0) : Type 0 where
+  pub at_most : E → E → Bool
+  pub home : E → ℕ
+  pub entry : Node → E
+  pub note : Node → ℕ
+  pub test : Node → Bool
+  pub made : Node → ℕ → E
+  pub names : (n : Node) (p : ℕ) → home (made n p) ≡ p
+  pub reads : (n : Node) (p : ℕ) → want_if test made n p ≡ want_if test made (faced (face n)) p
+  pub keeps_entry : (n : Node) (r : Record) (side : ℕ) → entry (with_kept n r side) ≡ entry n
+  pub keeps_note : (n : Node) (r : Record) (side : ℕ) → note (with_kept n r side) ≡ note n
 
-abbrev pub faced : Record × ℕ → Node
-faced x =
-    record {
-      kept = x.0;
-      low = record { entry = record { cost = 0; place = 0 }; note = 0 };
-      hope = record { entry = record { cost = 0; place = 0 }; note = 0 };
-      near = record { entry = record { steps = 0; cost = 0; place = 0 }; note = 0 };
-      far = record { entry = record { cost = 0; place = 0 }; note = 0 };
-      side = x.1;
-    }
+-- What a table wants in the queue.
+abbrev pub expects : {E : Type 0} → Kind E → List Node → ℕ → Option E
+expects K t = expected_in (want_if K.test K.made) t
 
--- One queue, which wants an entry of each node that passes the test.
-module _ {E : Type 0} (le : E → E → Bool) (home : E → ℕ) (get : Node → E) (note : Node → ℕ) (test : Node → Bool) (entry : Node → ℕ → E) where
-  abbrev pub wanted : Node → ℕ → Option E
-  wanted n p = cond (test n) (Some (entry n p)) None
+-- The queue of n holds what is expected.
+abbrev pub Held : {E : Type 0} → Kind E → (ℕ → Option E) → ℕ → List Node → Type 0
+Held K x n u = Holds K.at_most K.home K.entry K.note x n u
 
-  module _ (t : List Node) (h : ℕ) (old new : Node) (on : h < length t) (is : old ≡ get_or t h old) where
-    was_right : (was : Bool) → was ≡ test old → is_some (expected_in wanted t h) ≡ was
-    was_right was w = ap is_some (expected_read wanted t h old on is) ∙ some_if (test old) (entry old h) ∙ sym w
+-- One queue, when a place of t is given a record and a side.
+module _ {E : Type 0} (K : Kind E) (t : List Node) (place : ℕ) (kept : Record) (side : ℕ) where
+  abbrev new : Node
+  new = renewed t place kept side
+
+  -- The queue of n in u was updated, to one of m in v.
+  pub record Requeued (n m : ℕ) (v : List Node) : Type 0 where
+    pub held : Held K (put (expects K t) place (want_if K.test K.made new place)) m v
+    pub count : m ≡ counted_by n (K.test new) (K.test (node_at t place))
+
+  -- the record is written
+  pub held_written : {x : ℕ → Option E} {n : ℕ} → Held K x n t → Held K x n (written t place kept side)
+  held_written H = holds_set K.at_most K.home K.entry K.note H place blank_node new (K.keeps_entry _ kept side) (K.keeps_note _ kept side)
+
+  module _ (on : place < length t) (n : ℕ) (was : Bool) (want : Option E) (u : List Node) (H : Held K (expects K t) n u) (w : was ≡ K.test (node_at t place)) (same : want ≡ want_if K.test K.made new place) where
+    was_right : is_some (expects K t place) ≡ was
+    was_right = ap is_some (expected_at (want_if K.test K.made) t place on) ∙ some_if (K.test (node_at t place)) (K.made (node_at t place) place) ∙ sym w
 
     -- the update may be made
-    pub can_update : ((n : Node) (p : ℕ) → home (entry n p) ≡ p) → (n : ℕ) (was : Bool) (want : Option E) (u : List Node)
-        → Holds le home get note (expected_in wanted t) n u → length u ≡ length t → length t ≤ 4096 → was ≡ test old → want ≡ wanted new h
-        → Updatable le home get note 4294967296 n h was want u
-    can_update names n was want u H long small w same = record {
-      expected = expected_in wanted t;
+    pub can_update : length u ≡ length t → length t ≤ 4096 → Updatable K.at_most K.home K.entry K.note 4294967296 n place was want u
+    can_update long small = record {
+      expected = expects K t;
       holds = H;
-      before = was_right was w;
+      before = was_right;
       within = omega (arith, on, long);
       noted = omega (arith, small, long);
-      names = λ e some. ap home (sym (if_some (test new) (entry new h) e (sym same ∙ some)).1) ∙ names new h;
+      names = λ e some. ap K.home (sym (if_some (K.test new) (K.made new place) e (sym same ∙ some)).1) ∙ K.names new place;
     }
 
     -- and what it comes to
-    pub after_update : (n m : ℕ) (was : Bool) (want : Option E) (u v : List Node)
-        → Holds le home get note (expected_in wanted t) n u → was ≡ test old → want ≡ wanted new h → Updated le home get note n h was want u m v
-        → Holds le home get note (put (expected_in wanted t) h (wanted new h)) m v
-    after_update n m was want u v H w same U =
-        subst (λ (o : Option E). Holds le home get note (put (expected_in wanted t) h o) m v) same (U (expected_in wanted t) H (was_right was w))
+    pub requeued : (m : ℕ) (v : List Node) → Updated K.at_most K.home K.entry K.note n place was want u m v → m ≡ updated_count n was want → Requeued n m v
+    requeued m v U is = record {
+      held = subst (λ (o : Option E). Held K (put (expects K t) place o) m v) same (U (expects K t) H was_right);
+      count =
+          is ∙ ap (λ (b : Bool). counted_by n (is_some want) b) w
+          ∙ ap (λ (b : Bool). counted_by n b (K.test (node_at t place))) (ap is_some same ∙ some_if (K.test new) (K.made new place));
+    }
 
-    -- the queue holds what the table wants after all updates
-    pub at_last : ((n : Node) (p : ℕ) → wanted n p ≡ wanted (faced (face n)) p) → (m : ℕ) (u : List Node)
-        → map face u ≡ map face (set t h new) → Holds le home get note (put (expected_in wanted t) h (wanted new h)) m u
-        → Holds le home get note (expected_in wanted u) m u
-    at_last reads m u same H =
-        holds_same le home get note H (λ k. expected_set wanted t h new on k ∙ sym (expected_kept wanted face faced reads (set t h new) u same k))
+  -- the queue holds what the table wants after all updates
+  pub at_last : (m : ℕ) (u : List Node) → place < length t → map face u ≡ map face (written t place kept side)
+      → Held K (put (expects K t) place (want_if K.test K.made new place)) m u → Held K (expects K u) m u
+  at_last m u on same H =
+      holds_same K.at_most K.home K.entry K.note H
+      (λ k. expected_set (want_if K.test K.made) t place new on k ∙ sym (expected_kept (want_if K.test K.made) face faced K.reads (written t place kept side) u same k))
+
+-- the update of another queue
+pub beside : {E F : Type 0} (K : Kind E) {get : Node → F} {with_get : Node → F → Node} {note : Node → ℕ} {with_note : Node → ℕ → Node} {u v : List Node} → QueueOnly get with_get note with_note u v
+    → ((r : Node) (e : F) (m : ℕ) → K.entry (with_note (with_get r e) m) ≡ K.entry r) → ((r : Node) (e : F) (m : ℕ) → K.note (with_note (with_get r e) m) ≡ K.note r)
+    → (x : ℕ → Option E) (n : ℕ) → Held K x n u → Held K x n v
+beside K A a b x n H = holds_kept_only A K.at_most K.home K.entry K.note a b H
 
 -- the records are a part of the faces
 pub records_face : (t u : List Node) → map face u ≡ map face t → records u ≡ records t

@@ -1,8 +1,8 @@
 -- Places that change sides.
-use Rattle.std.proofs.Common.{◌≡◌, ℕ, zero, suc, ◌*◌, ◌<◌, ◌≤◌, Bool, true, false, not, cond, eqb, leb, List, [], ◌∷◌, get_or, set, Some, None, Option, sym, refl, ap, ◌∙◌, subst, mul-le-mul_left, arith}
+use Rattle.std.proofs.Common.{◌≡◌, ℕ, ◌*◌, ◌<◌, ◌≤◌, Bool, true, false, not, cond, eqb, leb, List, get_or, set, Some, None, Option, sym, refl, ap, ◌∙◌, subst, mul-le-mul_left, arith}
 use Rattle.std.specs.Option.{option_map}
 use Rattle.std.proofs.lemmas.Map.Entries.{option_filter}
-use Rattle.std.proofs.lemmas.List.{get_or_default}
+use Rattle.std.proofs.lemmas.List.{get_or_default, set-get_or}
 use Rattle.std.proofs.lemmas.Bool.{and_right, and_parts, lt-leb, leb-false, both_ways}
 use Rattle.queue.specs.Calls.{Head}
 use Rattle.queue.specs.Entries.{entries}
@@ -26,14 +26,10 @@ use Rattle.frontier.specs.Moves.{Labelled, Closing, Movable, Moved, Rearranged, 
 use Rattle.table.specs.Order.{cost_place, near_place_of}
 use Rattle.table.specs.Seats.{near_entry, near_note, far_entry, far_note}
 use Rattle.table.specs.Table.{records, near_entry_of}
-use Rattle.frontier.proofs.Putting.{no_node, node_at}
-use Rattle.frontier.proofs.Reading.{kept_at, wants, wanted_here, by_default, cost_before, before_le}
-
--- writing what is there
-set_there : {A : Type 0} (xs : List A) (i : ℕ) (d : A) → set xs i (get_or xs i d) ≡ xs
-set_there [] i d = refl
-set_there (x ∷ xs) zero d = refl
-set_there {A} (x ∷ xs) (suc i) d = ap (λ (zs : List A). x ∷ zs) (set_there xs i d)
+use Rattle.table.specs.Fresh.{blank_node}
+use Rattle.table.proofs.OrderAsked.{records_at}
+use Rattle.frontier.proofs.Nodes.{node_at}
+use Rattle.frontier.proofs.Reading.{node_limits, wants, wanted_here, by_default, cost_before, before_le}
 
 -- an open place's entry by f̂
 abbrev hope_made : Node → ℕ → CostEntry
@@ -42,23 +38,23 @@ hope_made n p = record { cost = f_hat n.kept; place = p }
 -- A place that is given its own record again.
 module _ {s : Search} {fr : Frontier} {t : List Node} {place side : ℕ} (M : Movable s fr t place side) where
   pub kept_limits : RecordLimits (node_at t place).kept
-  kept_limits = subst RecordLimits (sym (kept_at t place)) (M.prepared.ready.limits place)
+  kept_limits = node_limits t place (M.prepared.ready.limits place)
 
   pub can_move : Puttable s fr t place (node_at t place).kept side
-  can_move = record { prepared = M.prepared; on = M.on; limits = kept_limits; beyond = λ d. M.beyond no_node }
+  can_move = record { prepared = M.prepared; on = M.on; limits = kept_limits; beyond = λ d. M.beyond blank_node }
 
   pub moved : {fr' : Frontier} {t' : List Node} → PutDone s fr t place (node_at t place).kept side fr' t' → Moved s fr t place side fr' t'
   moved {fr'} {t'} D = record {
     same = record {
       prepared = D.put.prepared;
-      same_records = D.put.records_set ∙ ap (λ (r : Record). set (records t) place r) (kept_at t place) ∙ set_there (records t) place blank;
+      same_records = D.put.records_set ∙ ap (λ (r : Record). set (records t) place r) (sym (records_at t place)) ∙ set-get_or (records t) place blank;
       same_length = D.put.same_length;
       covers = D.put.same_cover;
     };
     there = D.there;
     others = D.others;
-    nears = λ d. by_default (λ (n : Node). fr'.nears ≡ counted_by fr.nears (near_side (sided n side)) (near_side n)) t place M.on (D.nears no_node) d;
-    fars = λ d. by_default (λ (n : Node). fr'.fars ≡ counted_by fr.fars (far_side (sided n side)) (far_side n)) t place M.on (D.fars no_node) d;
+    nears = λ d. by_default (λ (n : Node). fr'.nears ≡ counted_by fr.nears (near_side (sided n side)) (near_side n)) t place M.on (D.nears blank_node) d;
+    fars = λ d. by_default (λ (n : Node). fr'.fars ≡ counted_by fr.fars (far_side (sided n side)) (far_side n)) t place M.on (D.fars blank_node) d;
   }
 
 -- A place that is given a label, or closed.
@@ -80,15 +76,15 @@ module _ {s : Search} {fr : Frontier} {t : List Node} {place : ℕ} where
   }
     where
       was : RecordLimits (node_at t place).kept
-      was = subst RecordLimits (sym (kept_at t place)) (C.prepared.ready.limits place)
+      was = node_limits t place (C.prepared.ready.limits place)
 
       limits : SeenLimits (closed (node_at t place).kept)
       limits =
-          let S = was.seen (subst (λ (r : Record). 1 ≤ r.mark) (sym (kept_at t place)) C.seen) in
+          let S = was.seen (subst (λ (r : Record). 1 ≤ r.mark) (records_at t place) C.seen) in
           record { label = S.label; low = S.low; hope = S.hope; steps = S.steps }
 
   pub put_closed : {fr' : Frontier} {t' : List Node} → RecordPut s fr t place (closed (node_at t place).kept) fr' t' → RecordPut s fr t place (closed (at (records t) place)) fr' t'
-  put_closed {fr'} {t'} D = subst (λ (r : Record). RecordPut s fr t place (closed r) fr' t') (kept_at t place) D
+  put_closed {fr'} {t'} D = subst (λ (r : Record). RecordPut s fr t place (closed r) fr' t') (sym (records_at t place)) D
 
 -- The numbers fall.
 fewer : (n m : ℕ) (comes goes : Bool) → m ≡ counted_by n comes goes → comes ≡ false → goes ≡ true → 0 < n → m < n
@@ -97,10 +93,10 @@ fewer n m comes goes is c g used =
 
 module _ {s : Search} {fr fr' : Frontier} {t t' : List Node} {place : ℕ} where
   pub fewer_far : Moved s fr t place 1 fr' t' → OnSide far_side t fr.fars place → fr'.fars < fr.fars
-  fewer_far M O = fewer fr.fars fr'.fars _ _ (M.fars no_node) (and_right (is_open (node_at t place).kept) (not (eqb 1 1)) refl) (O.there no_node) O.used
+  fewer_far M O = fewer fr.fars fr'.fars _ _ (M.fars blank_node) (and_right (is_open (node_at t place).kept) (not (eqb 1 1)) refl) (O.there blank_node) O.used
 
   pub fewer_near : Moved s fr t place 0 fr' t' → OnSide near_side t fr.nears place → fr'.nears < fr.nears
-  fewer_near M O = fewer fr.nears fr'.nears _ _ (M.nears no_node) (and_right (is_open (node_at t place).kept) (eqb 0 1) refl) (O.there no_node) O.used
+  fewer_near M O = fewer fr.nears fr'.nears _ _ (M.nears blank_node) (and_right (is_open (node_at t place).kept) (eqb 0 1) refl) (O.there blank_node) O.used
 
 -- Tables with the same records.
 pub rearranged_self : {s : Search} {fr : Frontier} {t : List Node} → Prepared s fr t → Rearranged s t fr.cover fr t
@@ -139,14 +135,14 @@ module _ {s : Search} {fr : Frontier} {t : List Node} (P : Prepared s fr t) (cov
   none_beyond : LeastExpected cost_at_most cost_place (expected_in far_side_wanted t) None → AllBeyond s t cover
   none_beyond L d p l far =
       absurd (none_some (expected_in far_side_wanted t p) _ (L p)
-      (wanted_here far_side hope_made t p l (subst (λ (n : Node). far_side n ≡ true) (get_or_default t p d no_node l) far)))
+      (wanted_here far_side hope_made t p l (subst (λ (n : Node). far_side n ≡ true) (get_or_default t p d blank_node l) far)))
 
   head_beyond : (e : CostEntry) → LeastExpected cost_at_most cost_place (expected_in far_side_wanted t) (Some e) → leb (s.bound.b * e.cost) (s.bound.a * cover) ≡ false → AllBeyond s t cover
   head_beyond e L out d p l far =
       by_default (λ (n : Node). within s cover n.kept ≡ false) t p l here d
     where
       there : far_side (node_at t p) ≡ true
-      there = subst (λ (n : Node). far_side n ≡ true) (get_or_default t p d no_node l) far
+      there = subst (λ (n : Node). far_side n ≡ true) (get_or_default t p d blank_node l) far
 
       least : e.cost ≤ f_hat (node_at t p).kept
       least = before_le _ e.place _ p (cost_before e (hope_made (node_at t p) p) (L.1 p (hope_made (node_at t p) p) (wanted_here far_side hope_made t p l there)))

@@ -4,7 +4,7 @@ use Rattle.std.proofs.lemmas.Bool.{and_parts, and_from, both_ways, cases_Bool, c
 use Rattle.queue.specs.Keys.{near_at_most}
 use Rattle.roster.specs.Check.{expected_in}
 use Rattle.roster.specs.Holds.{Holds}
-use Rattle.roster.proofs.Wishes.{expected_at, expected_past}
+use Rattle.roster.proofs.Wishes.{expected_past}
 use Rattle.roster.proofs.Holding.{holds_same}
 use Rattle.search_model.specs.declared.records.Record.{Record}
 use Rattle.search_model.specs.declared.search.Search.{Search}
@@ -19,14 +19,16 @@ use Rattle.table.specs.Order.{near_place_of}
 use Rattle.table.specs.Seats.{near_entry, near_note}
 use Rattle.frontier.specs.Frontier.{near_side_wanted, near_side}
 use Rattle.table.specs.Table.{records, near_wanted, near_entry_of, least_hope}
-use Rattle.frontier.proofs.Putting.{no_node, node_at}
-use Rattle.frontier.proofs.Reading.{kept_at, by_default}
+use Rattle.table.specs.Fresh.{blank_node}
+use Rattle.table.proofs.OrderAsked.{expected_at}
+use Rattle.frontier.proofs.Nodes.{node_at}
+use Rattle.frontier.proofs.Reading.{node_limits, not_last, by_default}
 use Rattle.frontier.proofs.Sides.{rearranged_self}
 
 -- One place.
 module _ {s : Search} {fr : Frontier} {t : List Node} {place least : ℕ} (T : TrimmingAt s fr t place least) where
   pub trim_limits : RecordLimits (node_at t place).kept
-  trim_limits = subst RecordLimits (sym (kept_at t place)) (T.trimmable.prepared.ready.limits place)
+  trim_limits = node_limits t place (T.trimmable.prepared.ready.limits place)
 
   pub can_trim : (near_side (node_at t place) && not (within s least (node_at t place).kept)) ≡ true → Movable s fr t place 0
   can_trim past = record {
@@ -79,12 +81,9 @@ trimmed_more {s} {t} {u} {t'} {least} {n} A B = record {
   };
   trimmed = λ p l. ⊎_elim
       (λ (e : p ≡ n). subst (NearWithin s least t') (sym e) B.here)
-      (λ ne. B.others p ne (A.trimmed p (below p l ne)))
+      (λ ne. B.others p ne (A.trimmed p (not_last p n l ne)))
       (cases_eq p n);
 }
-  where
-    below : (p : ℕ) → p < n + 1 → (p ≡ n → ⊥) → p < n
-    below p l ne = omega arith
 
 -- All places.
 bool_same : (a b : Bool) → (a ≡ true → b ≡ true) → (b ≡ true → a ≡ true) → a ≡ b
@@ -94,7 +93,7 @@ bool_same false false to from = refl
 
 pub expected_agree : {E : Type 0} (w w' : Node → ℕ → Option E) (t : List Node) → ((p : ℕ) → p < length t → w (node_at t p) p ≡ w' (node_at t p) p) → (h : ℕ) → expected_in w t h ≡ expected_in w' t h
 expected_agree w w' t same h = ⊎_elim
-    (λ l. expected_at w t h no_node l ∙ same h l ∙ sym (expected_at w' t h no_node l))
+    (λ l. expected_at w t h l ∙ same h l ∙ sym (expected_at w' t h l))
     (λ past. expected_past w t h past ∙ sym (expected_past w' t h past))
     (cases_lt h (length t))
 
@@ -118,7 +117,7 @@ trimmed_all {s} {t} {t'} {fr'} least is R W = record {
         to : near_side (node_at t' p) ≡ true → is_near s least (node_at t' p).kept ≡ true
         to near =
             and_from (is_open (node_at t' p).kept) (within s least (node_at t' p).kept)
-            (and_parts (is_open (node_at t' p).kept) (eqb (node_at t' p).side 1) near).0 (W p l no_node near)
+            (and_parts (is_open (node_at t' p).kept) (eqb (node_at t' p).side 1) near).0 (W p l blank_node near)
 
         from : is_near s least (node_at t' p).kept ≡ true → near_side (node_at t' p) ≡ true
         from n =
@@ -126,7 +125,7 @@ trimmed_all {s} {t} {t'} {fr'} least is R W = record {
             and_from (is_open (node_at t' p).kept) (eqb (node_at t' p).side 1) both.0 (⊎_elim
             (λ x. x)
             (λ x. absurd (both_ways (within s fr'.cover (node_at t' p).kept)
-            (R.prepared.ready.covered no_node p l (and_from (is_open (node_at t' p).kept) (not (eqb (node_at t' p).side 1)) both.0 (not_from_false (eqb (node_at t' p).side 1) x)))
+            (R.prepared.ready.covered blank_node p l (and_from (is_open (node_at t' p).kept) (not (eqb (node_at t' p).side 1)) both.0 (not_from_false (eqb (node_at t' p).side 1) x)))
             (subst (λ (c : ℕ). within s c (node_at t' p).kept ≡ true) (sym R.covers) both.1)))
             (cases_Bool (eqb (node_at t' p).side 1)))
 

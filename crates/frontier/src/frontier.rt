@@ -21,8 +21,10 @@ pub struct Frontier {
     pub cover: u32,
 }
 
+// Stays: the search and the lent table are parameters of every method. A struct that held the table's `&mut` would need a clause on its ghost name in every contract.
 impl Frontier {
     // Gives a place a record and a side, and each queue what it wants of the place then.
+    // Stays: the side is any number, as a node can store any; an enum would ask more of the caller.
     pub fn put_record(
         &mut self,
         search: Search,

@@ -69,6 +69,7 @@ impl Frontier {
     }
 
     // The first place on the near side if it is beyond the cover.
+    // Stays: one function for this and `far_within` is no plainer, as the entries are of two types and the tests are opposites.
     fn near_beyond(&self, search: Search, table: &[Node], cover: u32) -> Option<u32>
         requires { Prepared search self.now table.now }
         ensures { NearBeyond search self.now table.now cover result }

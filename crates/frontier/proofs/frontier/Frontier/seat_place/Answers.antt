@@ -1,8 +1,6 @@
-use Rattle.std.proofs.Common.{sym, subst}
-use Rattle.search_model.specs.Fields.{RecordLimits}
 use Rattle.table.proofs.OrderRebound.{right_node}
-use Rattle.frontier.proofs.Putting.{node_at}
-use Rattle.frontier.proofs.Reading.{kept_at}
+use Rattle.frontier.proofs.Nodes.{node_at}
+use Rattle.frontier.proofs.Reading.{node_limits}
 use Rattle.frontier.proofs.Seated.{can_seat, seat_more, side_near}
 use Rattle.frontier.proofs.frontier.Frontier.seat_place.Goals as goal
 
@@ -10,7 +8,7 @@ pub is_near-requires : goal.is_near-requires
 is_near-requires c = right_node c.args.table.now c.args.place c.requires.limits
 
 pub want_far-wanted-requires : goal.want_far-wanted-requires
-want_far-wanted-requires c = subst RecordLimits (sym (kept_at c.args.table.now c.args.place)) c.requires.limits
+want_far-wanted-requires c = node_limits c.args.table.now c.args.place c.requires.limits
 
 pub update-self-requires : goal.update-self-requires
 update-self-requires c =
