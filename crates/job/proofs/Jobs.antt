@@ -3,7 +3,7 @@ use Rattle.std.proofs.Common.{◌≡◌, ℕ, Bool, true, false, cond, eqb, leb,
 use Rattle.std.proofs.lemmas.Bool.{true≢false, eqb-true}
 use Rattle.floors.specs.Guided.{Guided}
 use Rattle.floors.specs.Questions.{first_no, unless}
-use Rattle.floors.proofs.Asked.{AllYes, all_yes}
+use Rattle.search.proofs.Asked.{AllYes, all_yes}
 use Rattle.search_model.specs.declared.bound.Bound.{Bound}
 use Rattle.search_model.specs.declared.search.Search.{Search}
 use Rattle.search_model.specs.Advance.{Answer, Barren, Settled, More, Outcome, going}

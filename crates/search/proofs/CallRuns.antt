@@ -5,7 +5,7 @@ use Rattle.std.proofs.lemmas.Bool.{eq-eqb, leb-true, ltb-true, and_parts}
 use Rattle.floors.specs.Guided.{Guided, SoundGuided}
 use Rattle.floors.specs.Meaning.{Meaning}
 use Rattle.floors.specs.Questions.{first_no, unless}
-use Rattle.floors.proofs.Asked.{all_yes}
+use Rattle.search.proofs.Asked.{all_yes}
 use Rattle.search_model.specs.declared.bound.Bound.{Bound}
 use Rattle.search_model.specs.declared.records.Record.{Record}
 use Rattle.search_model.specs.declared.search.Search.{Search}

@@ -3,7 +3,7 @@ use Rattle.std.proofs.Common.{◌≡◌, ℕ, ◌≤◌, true, List, length, is_
 use Rattle.std.proofs.lemmas.Bool.{le-leb}
 use Rattle.floors.specs.Meaning.{Meaning}
 use Rattle.floors.specs.Questions.{first_no, unless}
-use Rattle.floors.proofs.Asked.{all_yes}
+use Rattle.search.proofs.Asked.{all_yes}
 use Rattle.reading.specs.Trails.{measured, pair_of, written}
 use Rattle.reading.proofs.Measuring.{measured_some, measured_pair}
 use Rattle.reading.proofs.Writing.{measured_few}
