@@ -2,29 +2,27 @@
 ghost use Rattle.floors.specs.Guided.{described};
 ghost use Rattle.expansion.specs.Expanding.{Offerable, Offered, Expandable, Expanded};
 
-use crate::label::{labelled, takes_label};
+use crate::label::Way;
 use floors::floor::Floor;
 use floors::guided::GuidedFloor;
 use frontier::frontier::Frontier;
 use search_model::search::Search;
 use table::node::Node;
 
-// Offers a place a label by way of a parent and one of its legs.
+// Offers a place the label of a way to it.
 fn offer<F: GuidedFloor>(
     frontier: &mut Frontier,
     search: Search,
     floor: &F,
     table: &mut [Node],
     place: u32,
-    label: u32,
-    parent: u32,
-    leg: u32,
+    way: Way,
 )
     requires { Offerable search frontier.old table.old place }
-    ensures { Offered (described F.GuidedFloor floor.now) search table.old place label parent leg frontier.new table.new }
+    ensures { Offered (described F.GuidedFloor floor.now) search table.old place way.label way.parent way.leg frontier.new table.new }
 {
-    if takes_label(label, table[place as usize].kept) {
-        let kept = labelled(floor, place, label, parent, leg);
+    if way.is_taken(table[place as usize].kept) {
+        let kept = way.labelled(floor, place);
         frontier.give_label(search, table, place, kept);
     }
 }
@@ -44,10 +42,12 @@ pub fn expand<F: GuidedFloor>(
     frontier.close(search, table, place);
     for number in 0..floor.legs(place) {
         if let Some(leg) = floor.leg(place, number) {
-            let offered = label + leg.cost;
-            offer(
-                frontier, search, floor, table, leg.target, offered, place, number,
-            );
+            let way = Way {
+                label: label + leg.cost,
+                parent: place,
+                leg: number,
+            };
+            offer(frontier, search, floor, table, leg.target, way);
         }
     }
 }

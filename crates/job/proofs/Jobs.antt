@@ -1,9 +1,9 @@
 -- A job over a floor, from what its calls promise.
-use Rattle.std.proofs.Common.{◌≡◌, ℕ, Bool, true, false, cond, eqb, ltb, leb, List, [], ◌∷◌, length, is_some, Some, None, Option, sym, refl, ap, ◌∙◌, subst, arith}
+use Rattle.std.proofs.Common.{◌≡◌, ℕ, Bool, true, false, cond, eqb, leb, List, [], ◌∷◌, length, is_some, Some, None, Option, sym, refl, ap, ◌∙◌, subst, arith}
 use Rattle.std.proofs.lemmas.Bool.{true≢false, eqb-true}
 use Rattle.floors.specs.Guided.{Guided}
 use Rattle.floors.specs.Questions.{first_no, unless}
-use Rattle.floors.proofs.Asked.{AllYes, all_yes}
+use Rattle.search.proofs.Asked.{AllYes, all_yes}
 use Rattle.search_model.specs.declared.bound.Bound.{Bound}
 use Rattle.search_model.specs.declared.search.Search.{Search}
 use Rattle.search_model.specs.Advance.{Answer, Barren, Settled, More, Outcome, going}

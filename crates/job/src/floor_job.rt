@@ -19,6 +19,7 @@ use search_model::bound::Bound;
 use table::node::Node;
 
 // The questions, in order; nothing is changed before all are answered yes.
+// Stays: only `search_floor` asks them, so a struct of start, bound and budget would be made and taken apart once.
 fn ask<F: Floor>(
     floor: &F,
     start: u32,

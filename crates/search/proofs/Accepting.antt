@@ -1,14 +1,13 @@
 -- Accepted calls, from what their parts promise.
-use Rattle.std.proofs.Common.{◌≡◌, ℕ, ◌≤◌, Bool, true, false, cond, eqb, ltb, List, length, set, replicate, is_some, Some, None, Option, sym, refl, ap, ◌∙◌, subst, arith}
+use Rattle.std.proofs.Common.{◌≡◌, ℕ, ◌≤◌, true, List, length, set, replicate, is_some, None, Option, sym, ap, ◌∙◌, subst}
 use Rattle.std.proofs.lemmas.Bool.{true≢false, eqb-true}
 use Rattle.floors.specs.Guided.{Guided}
 use Rattle.floors.specs.Questions.{first_no, unless}
-use Rattle.floors.proofs.Asked.{all_yes}
+use Rattle.search.proofs.Asked.{all_yes}
 use Rattle.search_model.specs.declared.bound.Bound.{Bound}
 use Rattle.search_model.specs.declared.records.Record.{Record}
 use Rattle.search_model.specs.declared.search.Search.{Search}
-use Rattle.search_model.specs.Advance.{going}
-use Rattle.search_model.specs.Begin.{first_records, first_search, rebounded}
+use Rattle.search_model.specs.Begin.{first_search, rebounded}
 use Rattle.search_model.specs.Expansion.{labelled}
 use Rattle.search_model.specs.Records.{blank}
 use Rattle.table.specs.declared.node.Node.{Node}
@@ -19,7 +18,7 @@ use Rattle.search.specs.Calls.{told, asked, CallDone, Begun, ReboundDone}
 use Rattle.search.specs.Reports.{AdvanceReport, TurnsDone}
 use Rattle.search.specs.Turns.{TurnsOrdered, stopped_as}
 use Rattle.search.specs.declared.turns.Stopped.{Stopped}
-use Rattle.search.specs.Questions.{bound_valid, begin_questions, rebound_questions}
+use Rattle.search.specs.Questions.{begin_questions, rebound_questions}
 
 -- no question is answered no
 not_refused : {A : Type 0} (no : Option ℕ) → None ≡ no → is_some no ≡ true → A

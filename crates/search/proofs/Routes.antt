@@ -1,9 +1,9 @@
 -- A read, from what its parts promise.
-use Rattle.std.proofs.Common.{◌≡◌, ℕ, ◌≤◌, Bool, true, false, cond, eqb, List, length, is_some, Some, None, Option, sym, refl, ap, ◌∙◌, arith}
+use Rattle.std.proofs.Common.{◌≡◌, ℕ, ◌≤◌, true, List, length, is_some, Some, None, sym, ap, ◌∙◌, arith}
 use Rattle.std.proofs.lemmas.Bool.{le-leb}
 use Rattle.floors.specs.Meaning.{Meaning}
 use Rattle.floors.specs.Questions.{first_no, unless}
-use Rattle.floors.proofs.Asked.{all_yes}
+use Rattle.search.proofs.Asked.{all_yes}
 use Rattle.reading.specs.Trails.{measured, pair_of, written}
 use Rattle.reading.proofs.Measuring.{measured_some, measured_pair}
 use Rattle.reading.proofs.Writing.{measured_few}

@@ -165,7 +165,7 @@ pub turns_ordered :
     {g : Guided} {s : Search} {budget : ℕ} {t : List Node} {r : Stopped} {t' : List Node} {fr : Frontier} {t'' : List Node}
     → TurnsTaken g s budget (records t) r t'
     → Ended s t' fr t''
-    → TurnsOrdered g s budget t r t''
+    → TurnsOrdered g s budget t (record { ending = r.ending; spent = r.spent; total = r.total; front = fr }) t''
 turns_ordered {s = s} {t'' = t''} h e = record {
   said = rw (h.answer, h.spent, h.after, h.mark);
   left = e.same_records ∙ h.left;

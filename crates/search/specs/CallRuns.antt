@@ -1,15 +1,11 @@
 -- Runs of the calls that are offered, with advances to the end among them, and the guarantee over them: what begin promises. Runs has
 -- the same without advances to the end.
-use Rattle.std.specs.Prelude.{◌≡◌, ℕ, ◌+◌, ◌<◌, ◌≤◌, List, [], ◌∷◌, Some, ◌≢◌}
+use Rattle.std.specs.Prelude.{◌≡◌, ℕ, List, [], ◌∷◌, ◌≢◌}
 use Rattle.floors.specs.Guided.{Guided, SoundGuided}
 use Rattle.floors.specs.Meaning.{Meaning}
-use Rattle.floors.specs.Route.{ToGoal}
 use Rattle.search_model.specs.declared.bound.Bound.{Bound}
 use Rattle.search_model.specs.declared.search.Search.{Search}
 use Rattle.search_model.specs.Advance.{More}
-use Rattle.search_model.specs.Costs.{most_expansions}
-use Rattle.search_model.specs.Expansion.{greatest_total}
-use Rattle.search_model.specs.Guarantee.{MarkLaw}
 use Rattle.table.specs.declared.node.Node.{Node}
 use Rattle.search.specs.Calls.{Told, told, refused, ReboundDone, ReadDone, Begun}
 use Rattle.search.specs.Reports.{AdvanceReport, AdvanceReported, EndDone, end_budget}

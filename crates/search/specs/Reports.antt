@@ -1,13 +1,11 @@
 -- What an advance reports, and an advance to the end. The contracts of the calls use these; what Calls says of an advance leaves
 -- out the total of the report, and is what the runs of Runs are made of.
-use Rattle.std.specs.Prelude.{◌≡◌, ℕ, true, false, List, is_some, Option, refl}
+use Rattle.std.specs.Prelude.{◌≡◌, ℕ, List, Option, refl}
 use Rattle.floors.specs.Guided.{Guided}
-use Rattle.floors.specs.Questions.{first_no, unless}
+use Rattle.floors.specs.Questions.{first_no}
 use Rattle.search_model.specs.declared.search.Search.{Search}
-use Rattle.search_model.specs.Advance.{Answer, Outcome, expansions, going}
+use Rattle.search_model.specs.Advance.{Answer, Outcome, expansions}
 use Rattle.table.specs.declared.node.Node.{Node}
-use Rattle.table.specs.Order.{in_order}
-use Rattle.table.specs.Table.{records}
 use Rattle.search.specs.Calls.{Told, TurnsTold}
 use Rattle.search.specs.Questions.{advance_questions, end_questions}
 

@@ -7,7 +7,7 @@ ghost use Rattle.search.specs.Told.{state_of, tells};
 use crate::fault::SearchFault;
 use crate::questions::ask_begin;
 use crate::running::Running;
-use expansion::label::labelled;
+use expansion::label::Way;
 use floors::floor::Floor;
 use floors::guided::GuidedFloor;
 use search_model::bound::Bound;
@@ -25,7 +25,12 @@ fn begin_table<F: GuidedFloor>(
     ensures { Begun (described F.GuidedFloor floor.now) start bound table.old (tells state_of result) table.new }
 {
     ask_begin(floor, start, bound, table)?;
-    set_up(table, start, labelled(floor, start, 0, start, 0));
+    let way = Way {
+        label: 0,
+        parent: start,
+        leg: 0,
+    };
+    set_up(table, start, way.labelled(floor, start));
     let state = Search {
         start,
         bound,

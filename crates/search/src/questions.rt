@@ -47,6 +47,7 @@ pub fn ask_begin<F: Floor>(
 }
 
 // That the floor and the table have the size of the search.
+// Stays: running and settled searches both ask this, so it is no method of one of them.
 pub(crate) fn ask_sizes<F: Floor>(
     floor: &F,
     state: Search,
@@ -64,6 +65,7 @@ pub(crate) fn ask_sizes<F: Floor>(
 }
 
 // That the table is in order: the numbers of open and of near places.
+// Stays: `ordered` is a fact about the lent table, which `Queued` does not hold, so no ghost field of it can say it.
 fn ask_order(state: Search, table: &[Node]) -> Result<Queued, SearchFault>
     requires { length table.now ≤ 4294967296 }
     ensures answer { refusal search_number result ≡ first_no (order_question state table.now) }

@@ -33,6 +33,7 @@ impl Running {
 
 impl Settled {
     // Replaces the bound; the search runs again.
+    // Stays: a trait with the state and this method would be longer, with its two impls, than the two bodies that share `rebound_table`.
     pub fn rebound(self, bound: Bound, table: &mut [Node]) -> Result<Running, Refused<Settled>>
         ensures done { ReboundDone self.state bound table.old (tells_or_back state_of result) table.new }
         ensures back { HandsBack self result }

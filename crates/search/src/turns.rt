@@ -11,10 +11,7 @@ use crate::states::Report;
 use expansion::expand::expand;
 use floors::floor::Floor;
 use floors::guided::GuidedFloor;
-use frontier::choose::choose;
-use frontier::ending::finish;
 use frontier::frontier::Frontier;
-use frontier::start::start;
 use std::ops::ControlFlow;
 use table::node::Node;
 use table::order::Queued;
@@ -55,14 +52,15 @@ impl Running {
         ensures { TurnsTaken (described F.GuidedFloor floor.now) self.now.state budget (records table.old) result table.new }
     {
         let state = self.state;
-        let mut front = start(state, queued.opened, queued.nears, table);
+        let mut front = Frontier::start(state, queued, table);
         let mut spent = 0;
         let mut total = state.total;
+        // Stays: a `for` over 0..=budget would need an end after it that is never reached, and the proof of that.
         loop {
-            let chosen = choose(front, state, table);
-            match decide(floor, chosen.1, spent, budget) {
+            let chosen = front.choose(state, table);
+            match decide(floor, chosen, spent, budget) {
                 ControlFlow::Continue(place) => {
-                    front = expand(chosen.0, state, floor, table, place);
+                    expand(&mut front, state, floor, table, place);
                     spent += 1;
                     total = raise_total(total);
                 }
@@ -71,7 +69,7 @@ impl Running {
                         ending,
                         spent,
                         total,
-                        front: chosen.0,
+                        front,
                     };
                 }
             }
@@ -90,8 +88,8 @@ impl Running {
         requires sized { length table.old ≡ (F.meaning floor.now).size }
         ensures { TurnsOrdered (described F.GuidedFloor floor.now) self.now.state budget table.old result table.new }
     {
-        let stopped = self.take_turns(floor, budget, queued, table);
-        finish(stopped.front, self.state, table);
+        let mut stopped = self.take_turns(floor, budget, queued, table);
+        stopped.front.finish(self.state, table);
         stopped
     }
 }

@@ -4,8 +4,8 @@ use Rattle.expansion.proofs.Spreading.{label_limit, spread_offered, spread_barre
 use Rattle.expansion.proofs.expand.expand.Goals as goal
 use Rattle.expansion.proofs.expand.expand.Goals.{in-Some, in_default}
 
-pub overflow_add-offered : goal.overflow_add-offered
-overflow_add-offered g c =
+pub overflow_add-way : goal.overflow_add-way
+overflow_add-way g c =
     let limits = (g.F.Floor.sound c.args.floor.now).limits in
     let cost = limits.costs c.args.place c.loop-number.number c.in-Some.leg (sym c.in-Some.ensures) in
     omega (arith, label_limit c.requires)

@@ -1,15 +1,5 @@
-use Rattle.floors.specs.Guided.{guided}
-use Rattle.job.proofs.Jobs.{never_at_begin, never_at_advance, never_read, job_more, job_barren, job_settled}
+use Rattle.job.proofs.Jobs.{never_read, job_more, job_barren, job_settled}
 use Rattle.job.proofs.floor_job.search_floor.Goals as goal
-
-pub returns-in_err-running : goal.returns-in_err-running
-returns-in_err-running g c =
-    absurd (never_at_begin (guided (g.F.Floor.meaning c.args.floor.now) (g.F.GuidedFloor.guesses c.args.floor.now)) c.args.start c.args.bound c.args.budget c.args.table.now c.args.list.now c.in_ok-ask.ensures _ _ c.in_err-running.ensures.done)
-
-pub returns-in_err-advanced : goal.returns-in_err-advanced
-returns-in_err-advanced g c =
-    absurd (never_at_advance _ c.args.start c.args.bound c.args.budget c.args.table.now c.args.list.now c.in_ok-ask.ensures
-    c.in_ok-running.running.state _ c.in_ok-running.ensures.done c.in_ok-running.ensures.guaranteed _ _ c.in_err-advanced.ensures.done)
 
 pub returns-in_err-route-in-Settled : goal.returns-in_err-route-in-Settled
 returns-in_err-route-in-Settled g c =

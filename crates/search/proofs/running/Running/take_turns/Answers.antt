@@ -10,11 +10,11 @@ choose-chosen-requires g c = record { prepared = c.loop-place.invariant.prepared
 pub loop-place-init : goal.loop-place-init
 loop-place-init g c = turning_first _ c.args.self.now.state c.args.budget _ c.args.table.now c.start-front.result c.start-front.new.table c.requires.sized c.start-front.ensures
 
-pub expand-front-requires : goal.expand-front-requires
-expand-front-requires g c = can_expand c.loop-place.invariant c.choose-chosen.ensures c.in-Continue.place c.in-Continue.ensures
+pub expand-requires : goal.expand-requires
+expand-requires g c = can_expand c.loop-place.invariant c.choose-chosen.ensures c.in-Continue.place c.in-Continue.ensures
 
 pub loop-place-preserved : goal.loop-place-preserved
-loop-place-preserved g c = turning_more c.loop-place.invariant c.choose-chosen.ensures c.in-Continue.place c.in-Continue.ensures c.expand-front.ensures c.raise_total-total.ensures
+loop-place-preserved g c = turning_more c.loop-place.invariant c.choose-chosen.ensures c.in-Continue.place c.in-Continue.ensures c.expand.ensures c.raise_total-total.ensures
 
 pub returns-in-Break : goal.returns-in-Break
 returns-in-Break g c = turns_end c.loop-place.invariant c.choose-chosen.ensures c.in-Break.ending c.start-front.ensures.same_records c.in-Break.ensures
