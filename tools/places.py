@@ -18,7 +18,7 @@ LINES = {
     "3 loops": r"^\s*(?:'\w+: )?(?:for|while|loop)\b",
     "4 by hand": r"^impl(?:<.*>)? (?:Ranked|From<.*>|PartialEq|Eq|PartialOrd|Ord|Clone|Copy|Default|Display)\b.* for|fn (?:number|of|at|blank\w*|layer|record)\(|\b\w+: (?:old|frontier|front|state|self|rest)\.\w+,",
     "6 buffers": r"\], (?:n|opened|records): usize|opened: usize, table|count: usize, list|\[\w+; 4096\],|^\s*(?:pub )?(?:note|parent): u32,",
-    "7 steps": r"\bfn\(|\bdyn\b|\bimpl Fn|: Fn(?:Mut|Once)?\(|enum (?:Next|Step|Op)\b|\|\w+\| ",
+    "7 steps": r"\bfn\(|\bdyn\b|enum (?:Next|Step|Op)\b",
 }
 
 

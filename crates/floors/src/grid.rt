@@ -34,6 +34,7 @@ impl Grid {
             height,
             goal,
         };
+        // Stays: both arms take the cells, and of two closures only one could.
         match Frame::around(cells.as_slice(), shape) {
             Ok(frame) => Ok(Grid {
                 least: least_nonzero(cells.as_slice()),

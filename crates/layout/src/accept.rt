@@ -27,6 +27,7 @@ fn check(layout: &[u8]) -> Result<Counts, LayoutFault>
 pub fn intake(layout: Vec<u8>) -> Result<LayoutFloor, Refused>
     ensures { Taken layout result }
 {
+    // Stays: both arms take the bytes, and of two closures only one could.
     match check(layout.as_slice()) {
         Ok(counts) => Ok(LayoutFloor::new(layout, counts)),
         Err(fault) => Err(Refused { fault, layout }),

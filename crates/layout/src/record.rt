@@ -6,14 +6,17 @@ ghost use Rattle.layout.specs.Records.{part_at};
 // How long a record is.
 pub const RECORD_BYTES: usize = 16;
 
-// Byte 0 of a place record, and of a leg record.
-pub const PLACE_TAG: u8 = 83;
-
-pub const LEG_TAG: u8 = 65;
+// What a record is of, by its byte 0.
+#[derive(Clone, Copy)]
+pub enum Tag {
+    Leg = 65,
+    Place = 83,
+}
 
 // Byte 0, byte 1, bytes 2 and 3, and three numbers of four bytes each; numbers stand lowest byte first.
 #[derive(Clone, Copy, Default)]
 pub struct RawRecord {
+    // Stays: a layout may have any byte here and in the next place, and the questions refuse what they may not be.
     pub tag: u8,
     pub flag: u8,
     pub half: u16,

@@ -9,22 +9,21 @@ use crate::divided::Divided;
 use crate::fault::RecordFault;
 use crate::question::put;
 use crate::raw::raw_record;
-use crate::record::{LEG_TAG, PLACE_TAG, RECORD_BYTES};
-
-const LIMIT: u32 = 268_365_825;
+use crate::record::{RECORD_BYTES, Tag};
+use floors::limit::LIMIT;
 
 // No place record.
 pub fn no_place(layout: &[u8], index: usize) -> bool
     ensures { result ≡ no_place layout.now index }
 {
-    raw_record(layout, index).tag != PLACE_TAG
+    raw_record(layout, index).tag != Tag::Place as u8
 }
 
 // From the first record that is no place record on, no leg record.
 pub fn wrong_tag(layout: &[u8], places: usize, index: usize) -> bool
     ensures { result ≡ no_leg_behind layout.now places index }
 {
-    places <= index && raw_record(layout, index).tag != LEG_TAG
+    places <= index && raw_record(layout, index).tag != Tag::Leg as u8
 }
 
 // A goal whose low estimate is not 0.

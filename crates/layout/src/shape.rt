@@ -11,7 +11,7 @@ use crate::counts::{Counts, MOST_LEGS, MOST_PLACES};
 use crate::fault::{LayoutFault, RecordFault};
 use crate::question::{lowest_failing, put};
 use crate::raw::raw_record;
-use crate::record::{PLACE_TAG, RECORD_BYTES};
+use crate::record::{RECORD_BYTES, Tag};
 use crate::records::{no_place, wrong_tag};
 
 // Question 1.
@@ -29,7 +29,7 @@ fn check_length(layout: &[u8]) -> Result<(), LayoutFault>
 fn check_first(layout: &[u8]) -> Result<(), LayoutFault>
     ensures { says layout_verdict result ≡ asked 2 (no_first_place layout.now) }
 {
-    if raw_record(layout, 0).tag == PLACE_TAG {
+    if raw_record(layout, 0).tag == Tag::Place as u8 {
         Ok(())
     } else {
         Err(LayoutFault::FirstRecord)

@@ -28,6 +28,7 @@ pub struct Node {
     pub near: NearEntry,
 }
 
+// Stays: the impls of the two queues name their fields, and only the low queue notes where its entries stand.
 impl Slot<Low> for Node {
     type Entry = CostEntry;
 

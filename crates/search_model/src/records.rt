@@ -18,6 +18,7 @@ pub struct Record {
     // Stays: the table is lent, and the check of a table has to be able to refuse any mark.
     pub mark: u32,
     pub label: u32,
+    // Stays: places are named by their numbers, since the table is lent and the library has no heap.
     pub parent: u32,
     pub leg: u32,
     pub low: u32,
