@@ -10,6 +10,7 @@ pub enum GridFault {
     Goal = 14,
 }
 
+// Stays: each kind of fault numbers itself, since a trait for it would be one more import for every caller.
 impl GridFault {
     // The number of the question.
     pub fn number(&self) -> u32

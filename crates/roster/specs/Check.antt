@@ -59,11 +59,6 @@ abbrev pub Decided : {R E : Type 0} → (E → E → Bool) → (E → ℕ) → (
 Decided at_most Home_of entry_of note_of expected slots (Some n) = Holds at_most Home_of entry_of note_of expected n slots
 Decided at_most Home_of entry_of note_of expected slots None = (n : ℕ) → Holds at_most Home_of entry_of note_of expected n slots → ⊥
 
--- A number below n that fails, or none where all pass, whatever stands past the last slot.
-abbrev pub IsFailing : {R : Type 0} → (R → ℕ → Bool) → ℕ → Option ℕ → Type 0
-IsFailing {R} passes n None = (k : ℕ) → k < n → (d : R) → passes d k ≡ true
-IsFailing {R} passes n (Some i) = (i < n) × ((d : R) → passes d i ≡ false)
-
 -- What a test of the numbers below n says: all pass, or one fails, whatever stands past the last slot.
 abbrev pub Tested : {R : Type 0} → (R → ℕ → Bool) → ℕ → Bool → Type 0
 Tested {R} passes n true = (k : ℕ) → k < n → (d : R) → passes d k ≡ true

@@ -14,6 +14,7 @@ pub enum SearchFault {
     ListTooShort = 38,
 }
 
+// Stays: each kind of fault numbers itself, since a trait for it would be one more import for every caller.
 impl SearchFault {
     // The number of the question.
     pub fn number(&self) -> u32

@@ -12,33 +12,12 @@ use crate::wanted::{by_hope, by_low, by_rank};
 use queue::entry::{CostEntry, NearEntry};
 use search_model::records::Record;
 
-// A seat with an entry that stands for none.
-fn blank_seat<E>(entry: E) -> Seat<E>
-    ensures entry { result.entry ≡ entry }
-    ensures note { result.note ≡ 0 }
-{
-    Seat { entry, note: 0 }
-}
-
 impl Node {
     // A node that holds nothing.
     pub fn blank() -> Node
         ensures { result ≡ blank_node }
     {
-        let cost = blank_seat(CostEntry { cost: 0, place: 0 });
-        let near = blank_seat(NearEntry {
-            steps: 0,
-            cost: 0,
-            place: 0,
-        });
-        Node {
-            kept: Record::default(),
-            low: cost,
-            hope: cost,
-            near,
-            far: cost,
-            side: 0,
-        }
+        Node::default()
     }
 }
 

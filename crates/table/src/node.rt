@@ -2,7 +2,7 @@ use queue::entry::{CostEntry, NearEntry};
 use search_model::records::Record;
 
 // A slot of a queue, and the note of where the place's own entry stands in that queue.
-#[derive(Clone, Copy)]
+#[derive(Clone, Copy, Default)]
 pub struct Seat<E> {
     pub entry: E,
     pub note: u32,
@@ -10,7 +10,7 @@ pub struct Seat<E> {
 
 // What the table holds of one place. Slot i of each queue lies in node i. The far queue and the side serve an advance while it
 // runs: an open place is on the near side or on the far side.
-#[derive(Clone, Copy)]
+#[derive(Clone, Copy, Default)]
 pub struct Node {
     pub kept: Record,
     pub low: Seat<CostEntry>,

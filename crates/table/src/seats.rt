@@ -106,6 +106,8 @@ impl<Q: Seated> Homed<Q> for Node {
     }
 }
 
+// Stays: the four impls below name their fields, and no parameter of a type can be a field.
+
 // Every open place, by f.
 pub struct Low;
 
