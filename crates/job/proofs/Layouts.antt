@@ -3,13 +3,10 @@ use Rattle.std.proofs.Common.{◌≡◌, ℕ, true, List, length, is_some, Some,
 use Rattle.std.specs.declared.alloc.Global.{Global}
 use Rattle.floors.specs.Guided.{guided}
 use Rattle.floors.specs.Questions.{first_no, unless}
-use Rattle.layout.specs.declared.fault.LayoutFault.{LayoutFault}
-use Rattle.layout.specs.declared.fault.LayoutFault.TheVariants.{Length, FirstRecord, TooMany, Record, HighGoal, SteepLeg}
 use Rattle.layout.specs.declared.fault.RecordFault.{RecordFault}
 use Rattle.layout.specs.declared.fault.RecordFault.TheVariants.{Tag, FixedBytes, FirstLeg, Target, Estimate}
 use Rattle.layout.specs.declared.layout_floor.LayoutFloor.{LayoutFloor}
-use Rattle.layout.specs.declared.refused.Refused.{Refused}
-use Rattle.layout.specs.Faults.{layout_verdict, record_verdict}
+use Rattle.layout.specs.Faults.{record_verdict}
 use Rattle.layout.specs.Intake.{Taken, floor_meaning, floor_guesses}
 use Rattle.layout.specs.Verdict.{Verdict, accepted, verdict, number_of, record_of}
 use Rattle.layout.specs.Verdict as verdicts
@@ -23,7 +20,7 @@ use Rattle.search.specs.Calls.{told, refused, asked}
 use Rattle.search.specs.Faults.{search_number}
 use Rattle.search.specs.declared.fault.SearchFault.{SearchFault}
 use Rattle.job.specs.declared.answer.JobAnswer.{JobAnswer}
-use Rattle.job.specs.declared.fault.JobFault.TheVariants.{Layout, Search}
+use Rattle.job.specs.declared.fault.JobFault.TheVariants.{Search}
 use Rattle.job.specs.declared.refused.JobRefused.{JobRefused}
 use Rattle.job.specs.Floors.{Answered, answer_as, answered, job_outcome, settled_route, FloorJobDone}
 use Rattle.job.specs.Job.{done, JobResult, described, result_on, result_over, job_result, JobDone}
@@ -38,14 +35,6 @@ record_refused (FirstLeg r) = refl
 record_refused (Target r) = refl
 record_refused (Estimate r) = refl
 
-fault_refused : (f : LayoutFault) → layout_verdict f ≡ verdicts.refused (number_of (layout_verdict f)) (record_of (layout_verdict f))
-fault_refused (Length r) = refl
-fault_refused FirstRecord = refl
-fault_refused (TooMany r) = refl
-fault_refused (Record f) = record_refused f
-fault_refused (HighGoal r) = refl
-fault_refused (SteepLeg r) = refl
-
 -- An answer that is told comes of no question that is answered no, a refusal of one.
 told_by : (first : Option ℕ) (x y : Answered) → told x ≡ asked first y → (first ≡ None) × (x ≡ y)
 told_by None x y e = (refl, cc)
@@ -56,26 +45,6 @@ refused_by None k y e = let w : ◌≡◌ {A = ℕ} 0 1 = cc in absurd (omega ar
 refused_by (Some n) k y e = let same : k ≡ n = cc in ap Some (sym same)
 
 module _ (layout : Vec ℕ Global) (start : ℕ) (bound : Bound) (budget : ℕ) (t : List Node) (list : List ℕ) where
-  -- The layout is refused.
-  pub layout_refused :
-      (x : Refused) (r : JobRefused)
-      → Taken layout (Err x)
-      → r ≡ record { fault = Layout x.fault; layout = x.layout }
-      → JobDone layout start bound budget t list (Err r) t list
-  layout_refused x r taken is =
-      let no : verdict (vec_items layout) ≡ verdicts.refused (number_of (layout_verdict x.fault)) (record_of (layout_verdict x.fault)) = sym taken.said ∙ fault_refused x.fault in
-      let result : job_result (vec_items layout) start bound budget t list ≡ _ = ap (λ v. result_on v (vec_items layout) start bound budget t list) no in
-      subst (λ y. JobDone layout start bound budget t list (Err y) t list) (sym is)
-      (record {
-        said = sym (ap (λ (y : JobResult). y.told) result);
-        left = sym (ap (λ (y : JobResult). y.records_after) result);
-        listed = sym (ap (λ (y : JobResult). y.list_after) result);
-        same = refl;
-        back = taken.back;
-        ordered = tt;
-        floor = tt;
-      })
-
   -- the outcome of the search, and the list with its route
   abbrev outcome : Outcome
   outcome = job_outcome (described (vec_items layout)) start bound budget

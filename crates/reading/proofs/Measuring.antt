@@ -19,10 +19,6 @@ measured_with count cost (Some w) = Some (count + length w.places, cost + w.cost
 same_pair : {a b c d : ℕ} → a ≡ b → c ≡ d → ◌≡◌ {A = Option (ℕ × ℕ)} (Some (a, c)) (Some (b, d))
 same_pair {a} {b} {c} {d} e f = ap (λ x. Some (x, c)) e ∙ ap (λ x. Some (b, x)) f
 
-measured_none : (x : Option Trail) → measured x ≡ measured_with 0 0 x
-measured_none None = refl
-measured_none (Some w) = same_pair (omega arith) (omega arith)
-
 measured_extended : (count cost d p : ℕ) (x : Option Trail) → measured_with count cost (extended d p x) ≡ measured_with (count + 1) (cost + d) x
 measured_extended count cost d p None = refl
 measured_extended count cost d p (Some w) = same_pair (omega (arith, length-append w.places (p ∷ []))) (omega arith)
@@ -69,14 +65,6 @@ module _ (m : Meaning) (start : ℕ) (t : List Record) (most : ℕ) where
             ∙ ap (measured_with count cost) (follow_back m start t place (most - (count + 1)))
             ∙ measured_trail count cost place (step_back m start t place) (follow m start t (most - (count + 1)));
       }
-
-  pub counted_none : (goal : ℕ) → Counted m start t most 0 0 goal (measured (follow m start t most goal))
-  counted_none goal =
-      let same : most - 0 ≡ most = omega arith in
-      subst
-      (Counted m start t most 0 0 goal)
-      (ap (λ n. measured_with 0 0 (follow m start t n goal)) same ∙ sym (measured_none (follow m start t most goal)))
-      (counted_from 0 0 goal (omega arith))
 
   -- One step further back.
   pub counted_more :

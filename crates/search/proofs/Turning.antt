@@ -2,8 +2,6 @@
 use Rattle.std.proofs.Common.{◌≡◌, ℕ, ◌+◌, ◌-◌, ◌<◌, Bool, true, false, cond, ltb, List, length, Some, None, Option, sym, refl, ap, ◌∙◌, subst, add-zero, arith}
 use Rattle.std.proofs.lemmas.Bool.{ltb-true, ltb-false}
 use Rattle.floors.specs.Guided.{Guided}
-use Rattle.floors.specs.Meaning.{Meaning}
-use Rattle.floors.specs.Sound.{Sound}
 use Rattle.search_model.specs.declared.records.Record.{Record}
 use Rattle.search_model.specs.declared.search.Search.{Search}
 use Rattle.search_model.specs.Records.{at, f, Open}
@@ -11,16 +9,14 @@ use Rattle.search_model.specs.Choice.{low_place, choice}
 use Rattle.search_model.specs.Expansion.{expanded}
 use Rattle.search_model.specs.Advance.{going, stop, low_mark}
 use Rattle.search_model.proofs.Chosen.{LowMark, low_mark_some, choice_some}
-use Rattle.search_model.proofs.Loops.{Left, left_whole, left_barren, left_settled, left_more, left_expands}
+use Rattle.search_model.proofs.Loops.{Left, left_barren, left_settled, left_more, left_expands}
 use Rattle.frontier.specs.declared.choose.Choice.{Choice}
 use Rattle.frontier.specs.declared.frontier.Frontier.{Frontier}
 use Rattle.table.specs.declared.node.Node.{Node}
 use Rattle.frontier.specs.Choose.{Chosen, Picks}
 use Rattle.frontier.specs.Endings.{Ended}
 use Rattle.frontier.specs.Frontier.{Prepared}
-use Rattle.frontier.specs.Moves.{Rearranged}
-use Rattle.table.specs.Order.{InOrder, in_order}
-use Rattle.frontier.specs.Starting.{Startable}
+use Rattle.table.specs.Order.{in_order}
 use Rattle.table.specs.Table.{records}
 use Rattle.table.proofs.OrderLaws.{order_tested}
 use Rattle.expansion.specs.Expanding.{Expandable, Expanded}
@@ -37,24 +33,6 @@ pub record Turning (g : Guided) (s : Search) (budget : ℕ) (rs : List Record) (
   pub left : Left spent (going g (budget - spent) (with_total s total) (records t)) (going g budget s rs)
   pub prepared : Prepared s fr t
   pub sized : length t ≡ g.floor.size
-
--- The turns can begin.
-pub can_start : {m : Meaning} {s : Search} {opened nears : ℕ} {t : List Node} → Sound m → InOrder s opened nears t → length t ≡ m.size → Startable s opened nears t
-can_start sound order sized = record { ordered = order; small = omega (arith, sized, sound.limits.few_places) }
-
--- Before the first turn.
-pub turning_first :
-    (g : Guided) (s : Search) (budget cover : ℕ) (t : List Node) (fr : Frontier) (t' : List Node)
-    → length t ≡ g.floor.size
-    → Rearranged s t cover fr t'
-    → Turning g s budget (records t') fr 0 s.total t'
-turning_first g s budget cover t fr t' sized h =
-    let whole : budget ≡ budget - 0 = omega arith in
-    record {
-      left = subst (λ b. Left 0 (going g b s (records t')) (going g budget s (records t'))) whole (left_whole (going g budget s (records t')));
-      prepared = h.prepared;
-      sized = h.same_length ∙ sized;
-    }
 
 no_low : (rs : List Record) → low_mark rs ≡ None → low_place rs ≡ None
 no_low rs e = by (low_place rs) refl

@@ -22,13 +22,12 @@ use Rattle.search_model.specs.Fields.{RecordLimits}
 use Rattle.search_model.specs.Records.{at, blank, f, f_hat}
 use Rattle.table.specs.declared.node.Node.{Node}
 use Rattle.table.specs.Fresh.{blank_node}
-use Rattle.table.specs.Order.{cost_place, near_place_of, record_right, InOrder}
+use Rattle.table.specs.Order.{cost_place, near_place_of, InOrder}
 use Rattle.table.specs.Rebound.{below, NearBelow, NearOnly}
 use Rattle.table.specs.Seats.{low_entry, low_note, hope_entry, hope_note, near_entry, with_near_entry, near_note, with_near_note}
 use Rattle.table.specs.Table.{records, low_wanted, hope_wanted, near_wanted, near_entry_of, least_hope}
-use Rattle.table.proofs.OrderAsked.{kept_of, records_at, expected_at, expected_by, open_of}
+use Rattle.table.proofs.OrderAsked.{kept_of, expected_at, expected_by, open_of}
 use Rattle.roster.proofs.Orders.{near_ordered}
-use Rattle.table.proofs.OrderLimits.{limits_right}
 use Rattle.table.proofs.OrderOne.{near_of}
 
 module _ {E : Type 0} (x : ℕ → Option E) (i : ℕ) where
@@ -75,10 +74,6 @@ expected_same of none t t' same = fun_ext (λ h. expected_by of t h (none h) ∙
 
 near_same : (s : Search) (least : ℕ) (t t' : List Node) → records t ≡ records t' → expected_in (near_wanted s least) t ≡ expected_in (near_wanted s least) t'
 near_same s least = expected_same (near_of s least) (λ h. refl)
-
--- the node of a place whose record is within its limits
-pub right_node : (t : List Node) (p : ℕ) → RecordLimits (at (records t) p) → record_right (get_or t p blank_node).kept ≡ true
-right_node t p l = subst (λ (r : Record). record_right r ≡ true) (records_at t p) (limits_right (at (records t) p) l)
 
 module _ (s : Search) (least : ℕ) where
   -- a place that is not near

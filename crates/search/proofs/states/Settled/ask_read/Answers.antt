@@ -2,15 +2,8 @@ use Rattle.std.proofs.Common.{◌≡◌, Some, sym, ◌∙◌}
 use Rattle.reading.specs.Trails.{measured}
 use Rattle.search_model.specs.Read.{read_route}
 use Rattle.table.specs.Table.{records}
-use Rattle.search.proofs.Routes.{read_asked, few_places}
+use Rattle.search.proofs.Routes.{few_places}
 use Rattle.search.proofs.states.Settled.ask_read.Goals as goal
-
-pub returns-clause-answer : goal.returns-clause-answer
-returns-clause-answer g c =
-    let m = g.F.Floor.meaning c.args.floor.now in
-    let s = c.args.self.now in
-    let route : Some c.in_ok-pair.pair ≡ measured (read_route m s.state (records c.args.table.now) s.goal) = sym c.in_ok-pair.ensures.ok_part ∙ c.measure.ensures in
-    read_asked m s.state s.goal c.args.table.now c.args.room c.in_ok-pair.pair route c.in_ok-ask_sizes.ensures c.if-room-state.false
 
 pub returns-clause-fits : goal.returns-clause-fits
 returns-clause-fits g c =
