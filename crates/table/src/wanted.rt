@@ -168,6 +168,7 @@ impl<Q: Keyed> Expect<Q, Node> for OpenWanted {
     ghost wanted = { λ _. asked (open_entry Q.key) };
 
     fn expected(&self, node: &Node, home: usize) -> Option<CostEntry> {
+        // Stays: `then` would make an option of an option.
         if can_ask(node, home) {
             want::<Q>(*node, home as u32)
         } else {
