@@ -21,6 +21,7 @@ impl GridFault {
 }
 
 // A refused grid: why, and its cells as they were.
+// Stays: what comes back has a name of its own for each kind of call; one type for all would call cells, layouts and searches the same.
 #[derive(Drop)]
 pub struct GridRefused {
     pub fault: GridFault,

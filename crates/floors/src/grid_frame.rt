@@ -83,48 +83,26 @@ impl Frame {
         ensures inside { IfSome result (OnGrid self.shape) }
     {
         let GridShape { width, height, .. } = self.shape;
-        // Stays: branches, since `then` with a closure was tried and makes the legs of a grid a tenth slower.
+        let Position { row, column } = at;
+        // Stays: no `then`, since closures were tried and make the legs of a grid a tenth slower.
         match direction {
-            Direction::North => {
-                if at.row > 0 {
-                    Some(Position {
-                        row: at.row - 1,
-                        ..at
-                    })
-                } else {
-                    None
-                }
-            }
-            Direction::East => {
-                if at.column + 1 < width {
-                    Some(Position {
-                        column: at.column + 1,
-                        ..at
-                    })
-                } else {
-                    None
-                }
-            }
-            Direction::South => {
-                if at.row + 1 < height {
-                    Some(Position {
-                        row: at.row + 1,
-                        ..at
-                    })
-                } else {
-                    None
-                }
-            }
-            Direction::West => {
-                if at.column > 0 {
-                    Some(Position {
-                        column: at.column - 1,
-                        ..at
-                    })
-                } else {
-                    None
-                }
-            }
+            Direction::North if row > 0 => Some(Position {
+                row: row - 1,
+                column,
+            }),
+            Direction::East if column + 1 < width => Some(Position {
+                row,
+                column: column + 1,
+            }),
+            Direction::South if row + 1 < height => Some(Position {
+                row: row + 1,
+                column,
+            }),
+            Direction::West if column > 0 => Some(Position {
+                row,
+                column: column - 1,
+            }),
+            _ => None,
         }
     }
 }

@@ -40,6 +40,7 @@ impl GridShape {
 
 impl Direction {
     // The way that the leg of that number goes, if there is one.
+    // Stays: `TryFrom` would need a type of error that the one caller drops.
     pub fn of(number: u32) -> Option<Direction>
         ensures { result ≡ then_some (nat_lt number 4) (direction number) }
     {

@@ -1,5 +1,5 @@
 // The shut floor: a floor with places that no leg enters.
-ghost use Rattle.std.specs.Prelude.{◌≡◌, nat_lt};
+ghost use Rattle.std.specs.Prelude.{◌≡◌, ◌≤◌, nat_lt};
 ghost use Rattle.floors.specs.Questions.{first_no, refusal};
 ghost use Rattle.floors.specs.Shut.{no_places, contains, members, shut_floor};
 ghost use Rattle.floors.specs.ShutQuestions.{shut_number, shut_questions, unshut_questions, after_shut, after_unshut};
@@ -47,7 +47,8 @@ impl<F> Shut<F> {
 
     // How many places are shut.
     pub fn count(&self) -> u32
-        ensures { result ≡ members self.now.places }
+        ensures count { result ≡ members self.now.places }
+        ensures few { result ≤ 64 }
     {
         self.places.count()
     }
@@ -113,6 +114,7 @@ impl<F: Floor> Shut<F> {
     }
 }
 
+// Stays: what a shut floor does not change is passed on by name, as for a borrowed floor.
 impl<F: Floor> Floor for Shut<F> {
     ghost meaning = { λ s. shut_floor s.places (F.meaning s.floor) };
 

@@ -34,7 +34,8 @@ impl ShutSet {
 
     // How many places are in the set.
     pub fn count(&self) -> u32
-        ensures { result ≡ members self.now }
+        ensures count { result ≡ members self.now }
+        ensures few { result ≤ 64 }
     {
         self.count
     }

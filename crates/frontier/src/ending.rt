@@ -10,14 +10,15 @@ use crate::side::{Side, on_near_side};
 use search_model::search::Search;
 use table::node::Node;
 use table::order::least_hope;
-use table::wanted::{hope_sum, is_within};
+use table::seats::Hope;
+use table::wanted::{Keyed, is_within};
 
 // Whether a node is of a place on the near side beyond the cover.
 fn is_past(search: Search, node: Node, least: u32) -> bool
     requires { RecordLimits node.kept }
     ensures { result ≡ (near_side node && not (within search least node.kept)) }
 {
-    on_near_side(node) && !is_within(search.bound, least, hope_sum(node.kept))
+    on_near_side(node) && !is_within(search.bound, least, Hope::sum(node.kept))
 }
 
 impl Frontier {

@@ -10,7 +10,7 @@ use search_model::records::Record;
 use search_model::search::Search;
 use table::node::Node;
 use table::seats::{Far, Hope, Low, Near};
-use table::wanted::{want_hope, want_low};
+use table::wanted::want;
 
 // How many places are open, how many of them on the near side and on the far side, and the cover: every place on the far side is beyond it.
 #[derive(Clone, Copy)]
@@ -21,7 +21,8 @@ pub struct Frontier {
     pub cover: u32,
 }
 
-// Stays: the search and the lent table are parameters of every method. A struct that held the table's `&mut` would need a clause on its ghost name in every contract.
+// Stays: the lent table is a parameter of every method, since a struct that held its `&mut` would need a clause in every contract that it still is the same
+// table; and the search is one, since a copy of it in the frontier would need a clause that it still is the same search.
 impl Frontier {
     // Gives a place a record and a side, and each queue what it wants of the place then.
     // Stays: the side is any number, as a node can store any; an enum would ask more of the caller.
@@ -41,8 +42,10 @@ impl Frontier {
         let new = Node { kept, side, ..old };
         table[home] = new;
         let was = old.kept.is_open();
-        let opened = update::<Low, Node>(table, self.opened, home, was, want_low(new, place));
-        update::<Hope, Node>(table, self.opened, home, was, want_hope(new, place));
+        let low = want::<Low>(new, place);
+        let opened = update::<Low, Node>(table, self.opened, home, was, low);
+        let hope = want::<Hope>(new, place);
+        update::<Hope, Node>(table, self.opened, home, was, hope);
         let wanted = want_near(search, new, place);
         let nears = update::<Near, Node>(table, self.nears, home, on_near_side(old), wanted);
         let wanted = want_far(new, place);

@@ -16,8 +16,8 @@ use queue::slot::Slot;
 use search_model::records::Record;
 use search_model::search::Search;
 use table::node::Node;
-use table::seats::{Far, Near};
-use table::wanted::{hope_sum, is_within};
+use table::seats::{Far, Hope, Near};
+use table::wanted::{Keyed, is_within};
 
 impl Frontier {
     // Gives an open place a record: on the near side if it is within the cover, otherwise on the far side.
@@ -25,7 +25,7 @@ impl Frontier {
         requires { Labelled search self.old table.old place kept }
         ensures { RecordPut search self.old table.old place kept self.new table.new }
     {
-        let side = Side::near_if(is_within(search.bound, self.cover, hope_sum(kept)));
+        let side = Side::near_if(is_within(search.bound, self.cover, Hope::sum(kept)));
         self.put_record(search, table, place, kept, side.number());
     }
 

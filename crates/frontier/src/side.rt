@@ -7,7 +7,8 @@ ghost use Rattle.frontier.specs.Sides.{number_of};
 use queue::entry::{CostEntry, NearEntry};
 use search_model::search::Search;
 use table::node::Node;
-use table::wanted::{by_hope, by_rank};
+use table::seats::Hope;
+use table::wanted::{by_key, by_rank};
 
 // The near side or the far side. A node stores the number of its side.
 #[derive(Clone, Copy)]
@@ -61,5 +62,5 @@ pub(crate) fn want_far(node: Node, place: u32) -> Option<CostEntry>
     ensures { result ≡ far_side_wanted node place }
 {
     let kept = node.kept;
-    on_far_side(node).then(|| by_hope(kept, place))
+    on_far_side(node).then(|| by_key::<Hope>(kept, place))
 }

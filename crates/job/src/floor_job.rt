@@ -19,7 +19,7 @@ use search_model::bound::Bound;
 use table::node::Node;
 
 // The questions, in order; nothing is changed before all are answered yes.
-// Stays: only `search_floor` asks them, so a struct of start, bound and budget would be made and taken apart once.
+// Stays: start, bound and budget go through as the caller of the job gives them; a struct would be made and taken apart in each call.
 fn ask<F: Floor>(
     floor: &F,
     start: u32,

@@ -5,6 +5,7 @@ use crate::fault::JobFault;
 use layout::Refused;
 
 // A refused job: why, and the layout's bytes as they were.
+// Stays: what comes back has a name of its own for each kind of call; one type for all would call cells, layouts and searches the same.
 #[derive(Drop)]
 pub struct JobRefused {
     pub fault: JobFault,

@@ -13,11 +13,7 @@ use table::node::Node;
 fn sample(heap: Global, low: u32) -> Result<Vec<u8>, Fail> {
     let mut records = six_places();
     records[2] = encode_place(false, 3, low, 8, 2);
-    let mut bytes = Vec::new(heap);
-    for record in records {
-        bytes.extend_from_slice(&record)?;
-    }
-    Ok(bytes)
+    Ok(records.as_flattened().to_vec(heap)?)
 }
 
 // A job on the sample from place 0.

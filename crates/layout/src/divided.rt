@@ -49,7 +49,7 @@ impl Divided<'_> {
     pub fn leg(&self, place: u32, number: u32) -> Option<Leg>
         ensures { result ≡ leg_of self.now.layout.now self.now.counts place number }
     {
-        // Stays: with `then` and a closure the proof did not close (tried).
+        // Stays: with `then` and a closure the proof did not close (tried), and without one a record would be read for nothing.
         if number < self.leg_count(place) {
             let raw = raw_record(self.layout, self.leg_record(place, number));
             Some(Leg {

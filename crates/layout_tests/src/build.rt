@@ -25,11 +25,7 @@ pub(crate) fn with_byte(record: [u8; 16], at: usize, byte: u8) -> [u8; 16] {
 
 // The bytes of the records.
 pub(crate) fn bytes(heap: Global, records: &[[u8; 16]]) -> Result<Vec<u8>, AllocError> {
-    let mut layout = Vec::new(heap);
-    for record in records {
-        layout.extend_from_slice(record)?;
-    }
-    Ok(layout)
+    records.as_flattened().to_vec(heap)
 }
 
 // The floor of a layout that is accepted.

@@ -9,7 +9,8 @@ ghost use Rattle.queue.specs.Sift.{Risen, Sunk};
 use crate::order::Ranked;
 use crate::slot::Slot;
 
-// Stays: a queue is the first n of the slots that its caller lends, and the caller keeps n. A struct over `&mut` slots could state no such bound in a ghost field.
+// Stays: a queue is the first n of the slots that its caller lends for the call, and the caller keeps n. A struct over the `&mut` slots would be made in each
+// call, and each contract would need a clause that it still holds the same slots.
 
 // The head of a queue of n: its least entry, or none if it is empty.
 pub fn head<Q, R: Slot<Q>>(slots: &[R], n: usize) -> Option<R::Entry>

@@ -35,6 +35,8 @@ pub trait Homed<Q>: Slot<Q> {
     ghost apart: { Apart Self.Slot.entry_of Self.Slot.with_entry note_of with_note };
 }
 
+// Stays: the slots, n and what holds of them are in the contract of each call, as in `heap`.
+
 // Inserts e into a queue of n whose notes are right, and returns the deepest slot that changed. The home of e has no entry in the queue.
 pub fn insert<Q, R: Homed<Q>>(slots: &mut [R], n: usize, e: R::Entry) -> usize
     requires room { n < length slots.old }

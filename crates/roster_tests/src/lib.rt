@@ -28,7 +28,7 @@ pub struct Node {
     pub far_slot: u16,
 }
 
-// Stays: the impls of the two queues name their fields. One impl for both would index an array of seats, and its laws would need a bound on the index.
+// Stays: this node stands for a record of a caller. A trait of seats with two impls, and one impl each of `Slot` and `Homed` over it, would be as long.
 impl Slot<Low> for Node {
     type Entry = CostEntry;
 

@@ -8,6 +8,7 @@ use layout::intake;
 use std::fmt;
 
 // Refused by the number of a question and at a record, or accepted with so many places and legs.
+// Stays: one `Display` prints both, and a `Result` can be given none.
 #[derive(Clone, Copy)]
 pub enum Outcome {
     Refused { number: u32, at: usize },

@@ -35,6 +35,7 @@ pub enum Advanced {
 }
 
 // A search advanced to its end.
+// Stays: that this never is more is said by the variants, which a parameter of one type for both would hide.
 #[derive(Drop)]
 pub enum Ended {
     Settled(Settled, Report),
@@ -42,6 +43,7 @@ pub enum Ended {
 }
 
 // A refused call: why, and the search as it was.
+// Stays: what comes back has a name of its own for each kind of call; one type for all would call cells, layouts and searches the same.
 #[derive(Drop)]
 pub struct Refused<S> {
     pub fault: SearchFault,

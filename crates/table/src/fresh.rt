@@ -8,7 +8,8 @@ ghost use Rattle.table.specs.Order.{InOrder};
 ghost use Rattle.table.specs.Table.{records};
 
 use crate::node::{Node, Seat};
-use crate::wanted::{by_hope, by_low, by_rank};
+use crate::seats::{Hope, Low};
+use crate::wanted::{by_key, by_rank};
 use queue::entry::{CostEntry, NearEntry};
 use search_model::records::Record;
 
@@ -34,8 +35,8 @@ fn seat(node: &mut Node, start: u32, record: Record)
     requires limits { RecordLimits «record» }
     ensures { node.new ≡ seated node.old start «record» }
 {
-    node.low.entry = by_low(record, start);
-    node.hope.entry = by_hope(record, start);
+    node.low.entry = by_key::<Low>(record, start);
+    node.hope.entry = by_key::<Hope>(record, start);
     node.near.entry = by_rank(record, start);
 }
 

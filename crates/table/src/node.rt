@@ -5,6 +5,7 @@ use search_model::records::Record;
 #[derive(Clone, Copy, Default)]
 pub struct Seat<E> {
     pub entry: E,
+    // Stays: the table is lent and has no heap, so an entry is found again by the number of its slot.
     pub note: u32,
 }
 

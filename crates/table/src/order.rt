@@ -87,10 +87,8 @@ pub fn check_order(state: Search, table: &[Node]) -> Option<Queued>
     ensures answer { is_some result ≡ in_order state table.now }
     ensures holds { DecidedOrder state table.now result }
 {
-    // Stays: `then` would make an option of an option.
-    if are_right(table) {
-        Limited { nodes: table }.check_queues(state)
-    } else {
-        None
+    if !are_right(table) {
+        return None;
     }
+    Limited { nodes: table }.check_queues(state)
 }

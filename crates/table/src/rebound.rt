@@ -17,7 +17,8 @@ use crate::wanted::{NearWanted, by_rank, is_near};
 use queue::indexed;
 use search_model::search::Search;
 
-// Stays: the table changes under these methods, and a struct that holds a `&mut` keeps no ghost field, so `few` and `limits` are in each contract.
+// Stays: the table changes under these methods. A struct that held its `&mut` would need a clause in each contract that it still is the same table, which is
+// no shorter than `few` and `limits`.
 impl NearWanted {
     // Inserts the place into a near queue of n if it is near, and returns the number of entries.
     fn add(self, table: &mut [Node], n: usize, place: usize) -> usize

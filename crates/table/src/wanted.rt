@@ -35,22 +35,6 @@ fn can_ask(node: &Node, place: usize) -> bool
     is_right(node.kept) && place < 4_294_967_296
 }
 
-// f of a place.
-pub fn low_sum(kept: Record) -> u32
-    requires { f kept < 2 ^ 32 }
-    ensures { result ≡ f kept }
-{
-    kept.label + kept.low
-}
-
-// f̂ of a place.
-pub fn hope_sum(kept: Record) -> u32
-    requires { f_hat kept < 2 ^ 32 }
-    ensures { result ≡ f_hat kept }
-{
-    kept.label + kept.hope
-}
-
 // Whether b × the cost is at most a × the mark.
 pub fn is_within(bound: Bound, mark: u32, cost: u32) -> bool
     ensures { result ≡ nat_le (bound.b * cost) (bound.a * mark) }
@@ -83,7 +67,7 @@ impl Keyed for Low {
     ghost small = { Prim.search rules };
 
     fn sum(kept: Record) -> u32 {
-        low_sum(kept)
+        kept.label + kept.low
     }
 }
 
@@ -93,7 +77,7 @@ impl Keyed for Hope {
     ghost small = { Prim.search rules };
 
     fn sum(kept: Record) -> u32 {
-        hope_sum(kept)
+        kept.label + kept.hope
     }
 }
 
@@ -104,22 +88,6 @@ pub fn by_key<Q: Keyed>(kept: Record, place: u32) -> CostEntry
 {
     let cost = Q::sum(kept);
     CostEntry { cost, place }
-}
-
-// A place's entry by f.
-pub fn by_low(kept: Record, place: u32) -> CostEntry
-    requires { f kept < 2 ^ 32 }
-    ensures { result ≡ record { cost = f kept; place = place } }
-{
-    by_key::<Low>(kept, place)
-}
-
-// A place's entry by f̂.
-pub fn by_hope(kept: Record, place: u32) -> CostEntry
-    requires { f_hat kept < 2 ^ 32 }
-    ensures { result ≡ record { cost = f_hat kept; place = place } }
-{
-    by_key::<Hope>(kept, place)
 }
 
 // A place's entry by rank, then by f̂.
@@ -144,22 +112,6 @@ pub fn want<Q: Keyed>(node: Node, place: u32) -> Option<CostEntry>
     kept.is_open().then(|| by_key::<Q>(kept, place))
 }
 
-// The entry that the low queue wants of a place.
-pub fn want_low(node: Node, place: u32) -> Option<CostEntry>
-    requires { RecordLimits node.kept }
-    ensures { result ≡ low_wanted node place }
-{
-    want::<Low>(node, place)
-}
-
-// The entry that the hope queue wants of a place.
-pub fn want_hope(node: Node, place: u32) -> Option<CostEntry>
-    requires { RecordLimits node.kept }
-    ensures { result ≡ hope_wanted node place }
-{
-    want::<Hope>(node, place)
-}
-
 // Every open place, by the key of the queue.
 #[derive(Clone, Copy)]
 pub struct OpenWanted;
@@ -168,12 +120,8 @@ impl<Q: Keyed> Expect<Q, Node> for OpenWanted {
     ghost wanted = { λ _. asked (open_entry Q.key) };
 
     fn expected(&self, node: &Node, home: usize) -> Option<CostEntry> {
-        // Stays: `then` would make an option of an option.
-        if can_ask(node, home) {
-            want::<Q>(*node, home as u32)
-        } else {
-            None
-        }
+        let kept = node.kept;
+        (can_ask(node, home) && kept.is_open()).then(|| by_key::<Q>(kept, home as u32))
     }
 }
 
