@@ -131,7 +131,7 @@ impl<F: Floor> Floor for Shut<F> {
     fn leg(&self, place: u32, number: u32) -> Option<Leg> {
         self.floor
             .leg(place, number)
-            .filter(|leg| !self.is_shut(leg.target))
+            .filter(|leg| !self.places.contains(leg.target))
     }
 
     fn is_goal(&self, place: u32) -> bool {
