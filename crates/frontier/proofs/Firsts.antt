@@ -41,17 +41,17 @@ on_table t q o = omega (arith, seen_on (records t) q (omega arith), length-map t
 
 -- Queues of every open place by a key.
 module _ (key : Record → ℕ) (t : List Node) where
-  nothing_open : LeastExpected cost_at_most cost_place (expected_in (open_entry key) t) None → (q : ℕ) → Open (records t) q → ⊥
+  pub nothing_open : LeastExpected cost_at_most cost_place (expected_in (open_entry key) t) None → (q : ℕ) → Open (records t) q → ⊥
   nothing_open L q o = none_some _ _ (L q) (open_some key t q o)
 
   module _ (e : CostEntry) (L : LeastExpected cost_at_most cost_place (expected_in (open_entry key) t) (Some e)) where
-    head_opened : Open (records t) e.place
+    pub head_opened : Open (records t) e.place
     head_opened = (some_open key t e.place e L.0).0
 
-    head_cost : key (at (records t) e.place) ≡ e.cost
+    pub head_cost : key (at (records t) e.place) ≡ e.cost
     head_cost = sym (ap (λ (x : CostEntry). x.cost) (some_open key t e.place e L.0).1)
 
-    head_first : (q : ℕ) → Open (records t) q → Before (key (at (records t) e.place)) e.place (key (at (records t) q)) q
+    pub head_first : (q : ℕ) → Open (records t) q → Before (key (at (records t) e.place)) e.place (key (at (records t) q)) q
     head_first q o = subst (λ (k : ℕ). Before k e.place (key (at (records t) q)) q) (sym head_cost) (cost_before e _ (L.1 q _ (open_some key t q o)))
 
 -- What the head of the low queue says.
@@ -72,7 +72,7 @@ module _ {s : Search} {fr : Frontier} {t : List Node} (P : Prepared s fr t) (o :
   pub low_mark_none : o ≡ None → low_mark (records t) ≡ None
   low_mark_none is = rw (low_none (records t) (nothing_open f t (subst (LeastExpected cost_at_most cost_place (expected_in low_wanted t)) is least_low)), low_mark)
 
-hope_first : (t : List Node) (e : CostEntry) → LeastExpected cost_at_most cost_place (expected_in hope_wanted t) (Some e) → hope_place (records t) ≡ Some e.place
+pub hope_first : (t : List Node) (e : CostEntry) → LeastExpected cost_at_most cost_place (expected_in hope_wanted t) (Some e) → hope_place (records t) ≡ Some e.place
 hope_first t e L = hope_is (records t) e.place (head_opened f_hat t e L) (head_first f_hat t e L)
 
 -- The order of near entries.
@@ -170,11 +170,11 @@ module _ {s : Search} {fr : Frontier} {t : List Node} {hope mark : ℕ} (N : Nea
     pub near_first : near_place s rs ≡ Some e.place
     near_first = near_is s rs hope e.place N.is_hope head_near before
 
-  near_chosen : (e : NearEntry) → LeastExpected near_at_most near_place_of (expected_in (near_side_wanted s) t) (Some e) → leb (s.bound.b * e.cost) (s.bound.a * mark) ≡ true → choice s mark rs ≡ Some e.place
+  pub near_chosen : (e : NearEntry) → LeastExpected near_at_most near_place_of (expected_in (near_side_wanted s) t) (Some e) → leb (s.bound.b * e.cost) (s.bound.a * mark) ≡ true → choice s mark rs ≡ Some e.place
   near_chosen e L w =
       choice_near s mark rs e.place (near_first e L) (subst (λ (k : ℕ). leb (s.bound.b * k) (s.bound.a * mark) ≡ true) (sym (near_cost e L)) w)
 
-  hope_chosen : (e : NearEntry) → LeastExpected near_at_most near_place_of (expected_in (near_side_wanted s) t) (Some e) → leb (s.bound.b * e.cost) (s.bound.a * mark) ≡ false → choice s mark rs ≡ Some hope
+  pub hope_chosen : (e : NearEntry) → LeastExpected near_at_most near_place_of (expected_in (near_side_wanted s) t) (Some e) → leb (s.bound.b * e.cost) (s.bound.a * mark) ≡ false → choice s mark rs ≡ Some hope
   hope_chosen e L out =
       choice_hope s mark rs e.place hope (near_first e L) (subst (λ (k : ℕ). leb (s.bound.b * k) (s.bound.a * mark) ≡ false) (sym (near_cost e L)) out) N.is_hope N.close
 

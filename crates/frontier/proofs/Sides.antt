@@ -68,14 +68,22 @@ module _ {s : Search} {fr fr' : Frontier} {t t' : List Node} {place : ℕ} where
   pub fewer_near : Moved s fr t place 0 fr' t' → OnSide near_side t fr.nears place → fr'.nears < fr.nears
   fewer_near M O = fewer fr.nears fr'.nears _ _ (M.nears blank_node) (and_right (is_open (node_at t place).kept) (eqb 0 1) refl) (O.there blank_node) O.used
 
+-- beyond a cover is beyond every lower one
+pub beyond_lower : (s : Search) (t : List Node) (cover least : ℕ) → least ≤ cover → AllBeyond s t cover → AllBeyond s t least
+beyond_lower s t cover least le out d p l far =
+    let x = s.bound.b * f_hat (get_or t p d).kept in
+    let over : s.bound.a * cover < x = leb-false x (s.bound.a * cover) (out d p l far) in
+    let less : s.bound.a * least ≤ s.bound.a * cover = mul-le-mul_left s.bound.a le in
+    lt-leb x (s.bound.a * least) (omega arith)
+
 -- What the head of the far queue says.
-module _ {s : Search} {fr : Frontier} {t : List Node} (P : Prepared s fr t) (cover : ℕ) where
-  none_beyond : LeastExpected cost_at_most cost_place (expected_in far_side_wanted t) None → AllBeyond s t cover
+module _ (s : Search) (t : List Node) (cover : ℕ) where
+  pub none_beyond : LeastExpected cost_at_most cost_place (expected_in far_side_wanted t) None → AllBeyond s t cover
   none_beyond L d p l far =
       absurd (none_some (expected_in far_side_wanted t p) _ (L p)
       (wanted_here far_side hope_made t p l (subst (λ (n : Node). far_side n ≡ true) (get_or_default t p d blank_node l) far)))
 
-  head_beyond : (e : CostEntry) → LeastExpected cost_at_most cost_place (expected_in far_side_wanted t) (Some e) → leb (s.bound.b * e.cost) (s.bound.a * cover) ≡ false → AllBeyond s t cover
+  pub head_beyond : (e : CostEntry) → LeastExpected cost_at_most cost_place (expected_in far_side_wanted t) (Some e) → leb (s.bound.b * e.cost) (s.bound.a * cover) ≡ false → AllBeyond s t cover
   head_beyond e L out d p l far =
       by_default (λ (n : Node). within s cover n.kept ≡ false) t p l here d
     where
@@ -91,12 +99,27 @@ module _ {s : Search} {fr : Frontier} {t : List Node} (P : Prepared s fr t) (cov
           let more : s.bound.b * e.cost ≤ s.bound.b * f_hat (node_at t p).kept = mul-le-mul_left s.bound.b least in
           lt-leb (s.bound.b * f_hat (node_at t p).kept) (s.bound.a * cover) (omega arith)
 
-  -- the place of a head is on its side
-  far_on : (e : CostEntry) → 0 < fr.fars → expected_in far_side_wanted t e.place ≡ Some e → OnSide far_side t fr.fars e.place
-  far_on e used is =
-      let w = wants far_side hope_made t e.place e is in
-      record { on = w.0; there = by_default (λ (n : Node). far_side n ≡ true) t e.place w.0 w.1; used = used }
+-- The place of a head is on its side.
+pub far_on : (s : Search) (t : List Node) (n : ℕ) (e : CostEntry) → 0 < n → expected_in far_side_wanted t e.place ≡ Some e → OnSide far_side t n e.place
+far_on s t n e used is =
+    let w = wants far_side hope_made t e.place e is in
+    record { on = w.0; there = by_default (λ (n : Node). far_side n ≡ true) t e.place w.0 w.1; used = used }
 
+pub near_on : (s : Search) (t : List Node) (n : ℕ) (e : NearEntry) → 0 < n → expected_in (near_side_wanted s) t e.place ≡ Some e → OnSide near_side t n e.place
+near_on s t n e used is =
+    let w = wants near_side (near_entry_of s) t e.place e is in
+    record { on = w.0; there = by_default (λ (n : Node). near_side n ≡ true) t e.place w.0 w.1; used = used }
+
+-- and its cost is the place's f̂
+pub near_out : (s : Search) (t : List Node) (cover : ℕ) (e : NearEntry) → expected_in (near_side_wanted s) t e.place ≡ Some e → leb (s.bound.b * e.cost) (s.bound.a * cover) ≡ false
+    → (d : Node) → within s cover (get_or t e.place d).kept ≡ false
+near_out s t cover e is out d =
+    let w = wants near_side (near_entry_of s) t e.place e is in
+    by_default (λ (n : Node). within s cover n.kept ≡ false) t e.place w.0
+    (subst (λ (c : ℕ). leb (s.bound.b * c) (s.bound.a * cover) ≡ false) (sym (ap (λ (x : NearEntry). x.cost) w.2)) out) d
+
+-- The heads of both queues against a cover.
+module _ {s : Search} {fr : Frontier} {t : List Node} (P : Prepared s fr t) (cover : ℕ) where
   -- the head, if it is within the cover
   pub far_first : (o : Option CostEntry) {r : Option CostEntry} {m : Option ℕ} → Head cost_at_most fr.fars (entries far_entry fr.fars t) o
       → r ≡ option_filter (λ (e : CostEntry). leb (s.bound.b * e.cost) (s.bound.a * cover)) o → m ≡ option_map (λ (e : CostEntry). e.place) r
@@ -106,27 +129,12 @@ module _ {s : Search} {fr : Frontier} {t : List Node} (P : Prepared s fr t) (cov
     where
       at : (o : Option CostEntry) → Head cost_at_most fr.fars (entries far_entry fr.fars t) o → LeastExpected cost_at_most cost_place (expected_in far_side_wanted t) o
           → FarWithin s fr t cover (option_map (λ (e : CostEntry). e.place) (option_filter (λ (e : CostEntry). leb (s.bound.b * e.cost) (s.bound.a * cover)) o))
-      at None H L = none_beyond L
+      at None H L = none_beyond s t cover L
       at (Some e) H L = by (leb (s.bound.b * e.cost) (s.bound.a * cover)) refl
         where
           by : (b : Bool) → leb (s.bound.b * e.cost) (s.bound.a * cover) ≡ b → FarWithin s fr t cover (option_map (λ (e : CostEntry). e.place) (cond b (Some e) None))
-          by true w = far_on e H.used L.0
-          by false w = head_beyond e L w
-
--- What the head of the near queue says.
-module _ {s : Search} {fr : Frontier} {t : List Node} (P : Prepared s fr t) (cover : ℕ) where
-  near_on : (e : NearEntry) → 0 < fr.nears → expected_in (near_side_wanted s) t e.place ≡ Some e → OnSide near_side t fr.nears e.place
-  near_on e used is =
-      let w = wants near_side (near_entry_of s) t e.place e is in
-      record { on = w.0; there = by_default (λ (n : Node). near_side n ≡ true) t e.place w.0 w.1; used = used }
-
-  -- and its cost is the place's f̂
-  near_out : (e : NearEntry) → expected_in (near_side_wanted s) t e.place ≡ Some e → leb (s.bound.b * e.cost) (s.bound.a * cover) ≡ false
-      → (d : Node) → within s cover (get_or t e.place d).kept ≡ false
-  near_out e is out d =
-      let w = wants near_side (near_entry_of s) t e.place e is in
-      by_default (λ (n : Node). within s cover n.kept ≡ false) t e.place w.0
-      (subst (λ (c : ℕ). leb (s.bound.b * c) (s.bound.a * cover) ≡ false) (sym (ap (λ (x : NearEntry). x.cost) w.2)) out) d
+          by true w = far_on s t fr.fars e H.used L.0
+          by false w = head_beyond s t cover e L w
 
   -- the head, if it is beyond the cover
   pub near_past : (o : Option NearEntry) {r : Option NearEntry} {m : Option ℕ} → Head near_at_most fr.nears (entries near_entry fr.nears t) o
@@ -142,4 +150,4 @@ module _ {s : Search} {fr : Frontier} {t : List Node} (P : Prepared s fr t) (cov
         where
           by : (b : Bool) → leb (s.bound.b * e.cost) (s.bound.a * cover) ≡ b → NearBeyond s fr t cover (option_map (λ (e : NearEntry). e.place) (cond (not b) (Some e) None))
           by true w = record { first = Some e; least = L; close = w }
-          by false w = (near_on e H.used L.0, near_out e L.0 w)
+          by false w = (near_on s t fr.nears e H.used L.0, near_out s t cover e L.0 w)

@@ -37,6 +37,10 @@ module _ {R E : Type 0} (le : E → E → Bool) (home : E → ℕ) (get : R → 
     pub holds_absent : (h : ℕ) → x h ≡ None → Absent home get n xs h
     holds_absent h none d i l e = none_some (x h) _ none (ap x (sym e) ∙ H.right d i l)
 
+    -- a home with an expected entry is present
+    pub holds_present : (h : ℕ) (e : E) → x h ≡ Some e → Present home get note n xs h
+    holds_present = H.all
+
     -- and that entry stands in the slot that the home notes
     pub holds_at : (h : ℕ) (e : E) → x h ≡ Some e → (d : E) (r : R) → entry_at get xs d (note (get_or xs h r)) ≡ e
     holds_at h e is d r =

@@ -1,14 +1,14 @@
 -- Which places are low, hope and near, for code that keeps them at the heads of queues.
-use Rattle.std.proofs.Common.{◌≡◌, ℕ, ◌*◌, ◌<◌, ◌≤◌, true, false, ◌⊎◌, List, length, Some, None, Option, refl, ap, ◌∙◌, inl, inr, ⊎_elim, mul-le-mul_left, arith}
+use Rattle.std.proofs.Common.{◌≡◌, ℕ, ◌*◌, ◌<◌, ◌≤◌, true, false, ◌⊎◌, List, length, Some, None, Option, refl, ap, ◌∙◌, inl, inr, ⊎_elim, mul-le-mul_right, mul-le-mul_left, arith}
 use Rattle.std.proofs.lemmas.Bool.{lt-ltb, le-ltb, eq-eqb, eqb-true, le-leb, lt-leb, leb-true, leb-false, and_from, and_parts}
 use Rattle.std.proofs.lemmas.Bool.Decides.{nat_tests}
 use Rattle.search_model.specs.declared.records.Record.{Record}
 use Rattle.search_model.specs.declared.search.Search.{Search}
 use Rattle.search_model.specs.Records.{at, is_open, f, f_hat, Open}
 use Rattle.search_model.specs.Choice.{least, by_key, low_place, hope_place, near_place, within, is_near, rank, nearer, if_within, choice}
-use Rattle.search_model.proofs.Least.{least_is, least_none}
+use Rattle.search_model.proofs.Least.{least_is, least_none, least_missing}
 use Rattle.search_model.proofs.Table.{seen_on}
-use Rattle.search_model.proofs.Chosen.{by_key_ranks, near_ranks, near_open, head_least}
+use Rattle.search_model.proofs.Chosen.{by_key_ranks, near_ranks, near_open, head_open, head_least, head_missing}
 
 -- Key x at p comes before key y at q, or ties at a number that is not higher.
 abbrev pub Before : ℕ → ℕ → ℕ → ℕ → Type 0
@@ -102,6 +102,30 @@ near_is s t h p e n first = rw (e, near_place) found
         (seen_on t p (omega arith))
         (near_holds s t (f_hat (at t h)) p n)
         (λ q l x. ordered q (first q (near_test s t (f_hat (at t h)) q x)))
+
+-- Under a bound of at least 1 hope itself is in the near set.
+pub near_missing : (s : Search) (t : List Record) → s.bound.b ≤ s.bound.a → near_place s t ≡ None → (q : ℕ) → Open t q → ⊥
+near_missing s t ba = by (hope_place t) refl
+  where
+    by :
+        (x : Option ℕ)
+        → hope_place t ≡ x
+        → ◌≡◌ {A = Option ℕ} (elim x [ None ↦ None | Some h ↦ least (λ q. is_near s (f_hat (at t h)) (at t q)) (λ q r. nearer s (at t q) (at t r)) (length t) ]) None
+        → (q : ℕ)
+        → Open t q
+        → ⊥
+    by None e n q o = head_missing f_hat t e q o
+    by (Some h) e n q o =
+        let opened : Open t h = head_open f_hat t h e in
+        least_missing
+        (λ q. is_near s (f_hat (at t h)) (at t q))
+        (λ q r. nearer s (at t q) (at t r))
+        (near_ranks s t)
+        (length t)
+        n
+        h
+        (seen_on t h (omega arith))
+        (near_holds s t (f_hat (at t h)) h (record { opened = opened; close = mul-le-mul_right (f_hat (at t h)) ba }))
 
 -- f̂ of near is at least f̂ of hope.
 pub hope_before_near : (s : Search) (t : List Record) (h p : ℕ) → hope_place t ≡ Some h → near_place s t ≡ Some p → f_hat (at t h) ≤ f_hat (at t p)

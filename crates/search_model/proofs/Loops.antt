@@ -1,5 +1,5 @@
 -- Invariants for code that runs the definition in a loop: what is left comes to the whole.
-use Rattle.std.proofs.Common.{◌≡◌, ℕ, suc, ◌+◌, ◌-◌, ◌<◌, ◌≤◌, true, false, List, Some, None, refl, ap, ◌∙◌, subst, arith}
+use Rattle.std.proofs.Common.{◌≡◌, ℕ, suc, ◌+◌, ◌-◌, ◌<◌, ◌≤◌, true, false, List, [], ◌∷◌, ◌++◌, Some, None, Option, refl, ap, ◌∙◌, subst, append_assoc, append-nil, add-zero, add_assoc, arith}
 use Rattle.floors.specs.Guided.{Guided}
 use Rattle.search_model.specs.declared.records.Record.{Record}
 use Rattle.search_model.specs.declared.search.Search.{Search}
@@ -7,6 +7,7 @@ use Rattle.search_model.specs.Records.{at, f}
 use Rattle.search_model.specs.Choice.{low_place, choice}
 use Rattle.search_model.specs.Expansion.{expanded, counted}
 use Rattle.search_model.specs.Advance.{Barren, Settled, More, Outcome, expansions, stop, after, going}
+use Rattle.search_model.specs.Read.{Trail, extended}
 use Rattle.search_model.proofs.Turns.{going_barren, going_settled, going_more, going_expands}
 
 -- After k expansions what is left, o, ends as the whole advance does and has k expansions fewer.
@@ -48,3 +49,16 @@ module _ (g : Guided) (budget k : ℕ) (s : Search) (t : List Record) (whole : O
         (going g (budget - (k + 1)) (counted s) (expanded g n t))
         whole
         (subst (λ o. Left k o whole) (ap (λ b. going g b s t) one ∙ going_expands g s t l n low chosen (budget - (k + 1)) e) h)
+
+-- A trail with places at its end and their cost, as a read has it that follows parents from the goal.
+abbrev pub prolonged : List ℕ → ℕ → Option Trail → Option Trail
+prolonged places cost None = None
+prolonged places cost (Some w) = Some (record { places = w.places ++ places; cost = w.cost + cost })
+
+pub prolonged_none : (x : Option Trail) → prolonged [] 0 x ≡ x
+prolonged_none None = refl
+prolonged_none (Some w) = rw (append-nil, add-zero)
+
+pub prolonged_extended : (place d cost : ℕ) (places : List ℕ) (x : Option Trail) → prolonged places cost (extended d place x) ≡ prolonged (place ∷ places) (d + cost) x
+prolonged_extended place d cost places None = refl
+prolonged_extended place d cost places (Some w) = rw (append_assoc, add_assoc)

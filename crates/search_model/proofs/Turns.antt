@@ -6,15 +6,25 @@ use Rattle.search_model.specs.declared.records.Record.{Record}
 use Rattle.search_model.specs.declared.search.Search.{Search}
 use Rattle.search_model.specs.Records.{at, f, Seen}
 use Rattle.search_model.specs.Choice.{low_place, choice}
-use Rattle.search_model.specs.Expansion.{along, spread, expanded, counted}
+use Rattle.search_model.specs.Expansion.{takes, offer, along, spread, expanded, counted}
 use Rattle.search_model.specs.Advance.{Barren, Settled, More, low_mark, nothing, goal, other, turn, turn_at, stop, after, going}
-use Rattle.search_model.proofs.Labels.{given_record, Given}
+use Rattle.search_model.proofs.Labels.{offered_label, given_record, Given}
 use Rattle.search_model.proofs.Rules.{Kept, kept_by_labels, spread_rule}
 
 -- One leg.
 module _ (g : Guided) (n k : ℕ) (t : List Record) where
   pub along_barred : g.floor.leg n k ≡ None → along g n k t ≡ t
   along_barred e = rw (e, along)
+
+  pub along_passed : (l : Leg) → g.floor.leg n k ≡ Some l → takes (offered_label t n l) (at t l.target) ≡ false → along g n k t ≡ t
+  along_passed l e h = rw (e, along) (rw (h, offer))
+
+  pub along_given :
+      (l : Leg)
+      → g.floor.leg n k ≡ Some l
+      → takes (offered_label t n l) (at t l.target) ≡ true
+      → along g n k t ≡ set t l.target (given_record g t n k l)
+  along_given l e h = rw (e, along) (rw (h, offer))
 
 -- While its legs are taken a place keeps its record, so its label can be read once.
 module _ (g : Guided) (sound : SoundGuided g) (n : ℕ) (t : List Record) (seen : Seen t n) where
